@@ -1,8 +1,8 @@
 //! A server listens at a place, and takes in the clients that come.
 
-ghost use Rattle.std.specs.Prelude.{◌≡◌, ◌<◌, ◌^◌, [], IfOk};
+ghost use Rattle.std.specs.Prelude.{◌≡◌, [], IfOk};
 ghost use Rattle.std.specs.Arc.{arc_value};
-ghost use Rattle.many_clients.specs.Listening.{NeverFalls, connections_of, taking_of};
+ghost use Rattle.many_clients.specs.Listening.{HasRoom, NeverFalls, connections_of, taking_of};
 ghost use Rattle.client_listening.specs.Listening.{HasEndedOver, TakesInEach};
 
 use crate::client_threads::ClientThreads;
@@ -82,8 +82,7 @@ pub fn take_in_clients<
     count: Option<u64>,
     turn_limit: u64,
 ) -> Result<u64, ListenError>
-    requires accepted { A.accepted acceptor.old < 2 ^ 63 }
-    requires started { P.started spawner.old < 2 ^ 63 }
+    requires room { HasRoom (A.accepted acceptor.old) (P.started spawner.old) }
     ensures ended { HasEndedOver result count
         (taking_of A.accepted A.faults P.started P.faults acceptor.old spawner.old)
         (taking_of A.accepted A.faults P.started P.faults acceptor.new spawner.new) }

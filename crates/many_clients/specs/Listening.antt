@@ -1,10 +1,11 @@
 -- What a server that listens owes: how many connections were taken in, and which registrations its door gained.
-use Rattle.std.specs.Prelude.{ℕ, ℤ, pos, zero, suc, List, [], ◌∷◌, ◌++◌, ◌+◌, ◌≤◌, ◌<◌, ◌≡◌, Option, Some, None, Result, Ok, Err, map, min}
+use Rattle.std.specs.Prelude.{ℕ, ℤ, pos, zero, suc, List, [], ◌∷◌, ◌++◌, ◌+◌, ◌^◌, ◌≤◌, ◌<◌, ◌≡◌, Option, Some, None, Result, Ok, Err, map, min}
+use mathlib.Core.List.{IsPrefix}
 use Rattle.pg_cancel.specs.declared.entries.Entry.{Entry}
 use Rattle.pg_cancel.specs.declared.entries.RegistryCall.{RegistryCall}
 use Rattle.pg_cancel.specs.declared.entries.RegistryCall.TheVariants.{Register}
 use Rattle.pg_cancel.specs.declared.entries.RegistryAnswer.TheVariants.{Registered, Taken}
-use Rattle.pg_cancel.specs.Connections.{registers_of}
+use Rattle.pg_cancel.specs.Connections.{Witness, registers_of}
 use Rattle.conversation_runs.specs.Streams.{HasRisen}
 use Rattle.many_clients.specs.declared.accept_loop.ListenError.{ListenError}
 use Rattle.many_clients.specs.declared.accept_loop.ListenError.TheVariants.{AcceptFault, SpawnFault, PidTaken, NoMemory}
@@ -120,3 +121,16 @@ HasTakenIn (Err NoMemory) pid old new seen seen' = HasTaken old new 1 0 × (seen
 -- the counts of faults never fall
 abbrev pub NeverFalls : Taking → Taking → Type 0
 NeverFalls old new = (old.accept_faults ≤ new.accept_faults) × (old.start_faults ≤ new.start_faults)
+
+-- Fewer than 2^63 connections were accepted so far, and fewer than 2^63 jobs started, so that both counts can grow.
+abbrev pub HasRoom : ℕ → ℕ → Type 0
+HasRoom accepted started = (accepted < 2 ^ 63) × (started < 2 ^ 63)
+
+-- A door has seen what it had seen, and more, and is a door of the same registry.
+abbrev pub DoorGoesOn : Witness → Witness → Type 0
+DoorGoesOn old new = IsPrefix old.seen new.seen × (new.issuer ≡ old.issuer)
+
+-- A server goes on: no count of faults has fallen, and its door goes on.
+pub record ServerGoesOn (old new : Taking) (door new_door : Witness) : Type 0 where
+  pub never_falls : NeverFalls old new
+  pub door : DoorGoesOn door new_door

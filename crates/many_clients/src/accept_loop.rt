@@ -6,7 +6,7 @@ ghost use mathlib.Core.List.{IsPrefix};
 ghost use Rattle.pg_cancel.specs.Connections.{Connection};
 ghost use Rattle.pg_streams.specs.Accepting.{Gains};
 ghost use Rattle.many_clients.specs.Jobs.{ServesEach, ServesNext};
-ghost use Rattle.many_clients.specs.Listening.{HasAdmitted, HasEndedSo, HasTakenIn, IsTurnedAway, NeverFalls, IsRefusedAt, connections_of, taking_of};
+ghost use Rattle.many_clients.specs.Listening.{DoorGoesOn, HasAdmitted, HasEndedSo, HasTakenIn, IsTurnedAway, NeverFalls, IsRefusedAt, ServerGoesOn, connections_of, taking_of};
 ghost use Rattle.many_clients.specs.Registrations.{IsFresh};
 ghost use Rattle.conversation_runs.specs.Streams.{HasRisen, greatest_count};
 ghost use Rattle.many_clients.specs.declared.accept_loop.ListenError.{ListenError};
@@ -165,11 +165,10 @@ fn take_in<
         (A.coming acceptor.old) (A.coming acceptor.new)
         (P.taken spawner.old) (P.taken spawner.new) pid) }
     ensures untaken { OnErr result (P.taken spawner.new ≡ P.taken spawner.old) }
-    ensures never_falls { NeverFalls
+    ensures goes_on { ServerGoesOn
         (taking_of A.accepted A.faults P.started P.faults acceptor.old spawner.old)
-        (taking_of A.accepted A.faults P.started P.faults acceptor.new spawner.new) }
-    ensures seen { IsPrefix door.old.seen door.new.seen }
-    ensures issued { door.new.issuer ≡ door.old.issuer }
+        (taking_of A.accepted A.faults P.started P.faults acceptor.new spawner.new)
+        door.old door.new }
 {
     let Ok((source, sink)) = acceptor.accept() else {
         return Err(ListenError::AcceptFault);
@@ -197,8 +196,7 @@ fn admit<R: Wait, S: Source, K: Sink, J: Job, M: JobMaker<S, K, J>, G: KeySource
     ensures fresh { IfOk result (λ admitted. IsFresh 0 admitted.2) }
     ensures admitted { OnOk result (HasAdmitted door.old.seen door.new.seen pid) }
     ensures refused { IfErr result (λ error. IsTurnedAway error pid door.old.seen door.new.seen) }
-    ensures seen { IsPrefix door.old.seen door.new.seen }
-    ensures issued { door.new.issuer ≡ door.old.issuer }
+    ensures door { DoorGoesOn door.old door.new }
 {
     let manager = Arc::try_clone(manager)?;
     let maker = maker.share()?;
@@ -221,8 +219,7 @@ fn register_next<R: Wait, G: KeySource>(
     ensures fresh { IfOk result (λ handle. IsFresh 0 handle) }
     ensures admitted { OnOk result (HasAdmitted door.old.seen door.new.seen pid) }
     ensures refused { IfErr result (λ error. IsTurnedAway error pid door.old.seen door.new.seen) }
-    ensures seen { IsPrefix door.old.seen door.new.seen }
-    ensures issued { door.new.issuer ≡ door.old.issuer }
+    ensures door { DoorGoesOn door.old door.new }
 {
     let key = keys.next_key()?;
     match manager.register(rt, door, pid as i32, key) {

@@ -1,5 +1,5 @@
 -- What the program owes: what comes of its words.
-use Rattle.std.specs.Prelude.{ℕ, true, false, List, ◌≡◌, ◌≤◌, ◌<◌, ◌+◌, ◌^◌, ◌⊎◌, Option, Some, None, Result, Err, IfSome, OnOk, length}
+use Rattle.std.specs.Prelude.{ℕ, true, false, List, [], ◌∷◌, ◌≡◌, ◌≤◌, ◌<◌, ◌+◌, ◌^◌, ◌⊎◌, Option, Some, None, Result, Err, IfSome, OnOk, length}
 use Rattle.std.specs.List.{AllByRecursion}
 use Rattle.pg_messages.specs.declared.frontend.PgWireFrontendMessage.{PgWireFrontendMessage}
 use Rattle.pg_messages.specs.Frames.{DividesInto, IsBad, IsUnfinished, awaits_startup_after_all}
@@ -33,6 +33,10 @@ pub record Surroundings : Type 0 where
   pub client : Option (List ℕ)
   pub out : Option (List ℕ)
   pub counts : Counts
+
+-- the counts of faults
+abbrev pub fault_counts : Surroundings → List ℕ
+fault_counts s = s.file_faults ∷ s.counts.read_faults ∷ s.counts.write_faults ∷ []
 
 -- the surroundings by what their traits tell
 abbrev pub surroundings : {F S K : Type 0} → (F → Option (List ℕ)) → (F → ℕ) → (S → Option (List ℕ)) → (S → ℕ) → (S → ℕ)

@@ -2,11 +2,11 @@
 
 ghost use Rattle.std.specs.Prelude.{[], ◌∷◌};
 ghost use Rattle.pg_engine.specs.Serving.{FaultsNeverFall, counts_of};
-ghost use Rattle.pg_cursor.specs.Program.{HasRun, HasServedFile, WasServed, IsRunComplete, surroundings};
+ghost use Rattle.pg_cursor.specs.Program.{fault_counts, HasRun, HasServedFile, WasServed, IsRunComplete, surroundings};
 ghost use Rattle.pg_cursor.specs.Statuses.{status_of, line_of};
 ghost use Rattle.pg_cursor.specs.declared.outcome.Outcome.{Outcome};
 ghost use Rattle.relation_words.specs.Commands.{command_of};
-ghost use Rattle.status_lines.specs.Counts.{CountsNeverFall};
+ghost use Rattle.status_lines.specs.Counts.{ComesTo, CountsNeverFall};
 ghost use Rattle.status_lines.specs.StatusLines.{IsReported};
 
 use crate::outcome::Outcome;
@@ -76,14 +76,11 @@ fn carry_out<F: Source, S: Source, K: Sink>(
     client: &mut S,
     out: &mut K,
 ) -> Outcome
-    ensures ran { HasRun (command_of words.now) result
+    ensures { ComesTo (HasRun (command_of words.now)) fault_counts result
         (surroundings F.left F.faults S.left S.reads S.faults K.written K.faults file.old client.old
         out.old)
         (surroundings F.left F.faults S.left S.reads S.faults K.written K.faults file.new client.new
         out.new) }
-    ensures never_falls { CountsNeverFall
-        (F.faults file.old ∷ S.faults client.old ∷ K.faults out.old ∷ [])
-        (F.faults file.new ∷ S.faults client.new ∷ K.faults out.new ∷ []) }
 {
     match read_command(alloc, words) {
         Err(AllocError) => Outcome::Conversation(Err(ServeError::NoMemory)),
@@ -100,14 +97,11 @@ fn serve_file<F: Source, S: Source, K: Sink>(
     client: &mut S,
     out: &mut K,
 ) -> Outcome
-    ensures served { HasServedFile service result
+    ensures { ComesTo (HasServedFile service) fault_counts result
         (surroundings F.left F.faults S.left S.reads S.faults K.written K.faults file.old client.old
         out.old)
         (surroundings F.left F.faults S.left S.reads S.faults K.written K.faults file.new client.new
         out.new) }
-    ensures never_falls { CountsNeverFall
-        (F.faults file.old ∷ S.faults client.old ∷ K.faults out.old ∷ [])
-        (F.faults file.new ∷ S.faults client.new ∷ K.faults out.new ∷ []) }
 {
     match read_relations(alloc, file) {
         Err(error) => Outcome::File(error),

@@ -1,5 +1,5 @@
 -- What the program owes: what comes of its words.
-use Rattle.std.specs.Prelude.{ℕ, ℤ, false, List, [], ◌≡◌, ◌≤◌, ◌<◌, ◌⊎◌, ◌↔◌, Option, Some, None, Result, Ok, Err, length}
+use Rattle.std.specs.Prelude.{ℕ, ℤ, false, List, [], ◌∷◌, ◌≡◌, ◌≤◌, ◌<◌, ◌⊎◌, ◌↔◌, Option, Some, None, Result, Ok, Err, length}
 use Rattle.std.specs.List.{AllByRecursion}
 use Rattle.pg_client.specs.declared.desk.DeskCall.{DeskCall}
 use Rattle.pg_client.specs.declared.ends.EndKind.{EndKind}
@@ -37,6 +37,10 @@ pub record Surroundings : Type 0 where
   pub client : Option (List ℕ)
   pub out : Option (List ℕ)
   pub counts : Counts
+
+-- the counts of faults
+abbrev pub fault_counts : Surroundings → List ℕ
+fault_counts s = s.file_faults ∷ s.counts.read_faults ∷ s.counts.write_faults ∷ []
 
 -- the surroundings by what their traits tell
 abbrev pub surroundings : {F S K : Type 0} → (F → Option (List ℕ)) → (F → ℕ) → (S → Option (List ℕ)) → (S → ℕ) → (S → ℕ)

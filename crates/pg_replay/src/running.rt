@@ -1,13 +1,13 @@
 //! The program over a relation file and an input.
 
 ghost use Rattle.std.specs.Prelude.{[], ◌∷◌, ◌≤◌, IsErrOf, OnOk};
-ghost use Rattle.pg_replay.specs.Program.{HasRun, HasRecordedFile, HasVerifiedFile, HasRecorded, HasToldVerdict, HasVerified, HasWritten, IsRecordOutcome, surroundings};
+ghost use Rattle.pg_replay.specs.Program.{fault_counts, HasRun, HasRecordedFile, HasVerifiedFile, HasRecorded, HasToldVerdict, HasVerified, HasWritten, IsRecordOutcome, surroundings};
 ghost use Rattle.pg_replay.specs.Statuses.{status_of, line_of, verdict_line, verdict_outcome};
 ghost use Rattle.pg_replay.specs.Words.{order_of};
 ghost use Rattle.pg_replay.specs.declared.outcome.Outcome.{Outcome};
 ghost use Rattle.recording_text.specs.Text.{recording_text};
 ghost use Rattle.pg_engine.specs.Serving.{FaultsNeverFall, counts_of};
-ghost use Rattle.status_lines.specs.Counts.{CountsNeverFall};
+ghost use Rattle.status_lines.specs.Counts.{ComesTo, CountsNeverFall};
 ghost use Rattle.status_lines.specs.StatusLines.{IsReported};
 
 use crate::input::read_input;
@@ -86,14 +86,11 @@ fn carry_out<F: Source, S: Source, K: Sink>(
     client: &mut S,
     out: &mut K,
 ) -> Outcome
-    ensures ran { HasRun (order_of words.now) result
+    ensures { ComesTo (HasRun (order_of words.now)) fault_counts result
         (surroundings F.left F.faults S.left S.reads S.faults K.written K.faults file.old client.old
         out.old)
         (surroundings F.left F.faults S.left S.reads S.faults K.written K.faults file.new client.new
         out.new) }
-    ensures never_falls { CountsNeverFall
-        (F.faults file.old ∷ S.faults client.old ∷ K.faults out.old ∷ [])
-        (F.faults file.new ∷ S.faults client.new ∷ K.faults out.new ∷ []) }
 {
     match read_order(words) {
         None => Outcome::Usage,
@@ -111,14 +108,11 @@ fn record_file<F: Source, S: Source, K: Sink>(
     client: &mut S,
     out: &mut K,
 ) -> Outcome
-    ensures recorded { HasRecordedFile pid key.now result
+    ensures { ComesTo (HasRecordedFile pid key.now) fault_counts result
         (surroundings F.left F.faults S.left S.reads S.faults K.written K.faults file.old client.old
         out.old)
         (surroundings F.left F.faults S.left S.reads S.faults K.written K.faults file.new client.new
         out.new) }
-    ensures never_falls { CountsNeverFall
-        (F.faults file.old ∷ S.faults client.old ∷ K.faults out.old ∷ [])
-        (F.faults file.new ∷ S.faults client.new ∷ K.faults out.new ∷ []) }
 {
     match read_relations(alloc, file) {
         Err(error) => Outcome::File(error),
@@ -133,14 +127,11 @@ fn verify_file<F: Source, S: Source, K: Sink>(
     client: &mut S,
     out: &mut K,
 ) -> Outcome
-    ensures verified { HasVerifiedFile result
+    ensures { ComesTo HasVerifiedFile fault_counts result
         (surroundings F.left F.faults S.left S.reads S.faults K.written K.faults file.old client.old
         out.old)
         (surroundings F.left F.faults S.left S.reads S.faults K.written K.faults file.new client.new
         out.new) }
-    ensures never_falls { CountsNeverFall
-        (F.faults file.old ∷ S.faults client.old ∷ K.faults out.old ∷ [])
-        (F.faults file.new ∷ S.faults client.new ∷ K.faults out.new ∷ []) }
 {
     match read_relations(alloc, file) {
         Err(error) => Outcome::File(error),

@@ -1,15 +1,11 @@
 -- The jobs of clients of relations.
-use Rattle.std.specs.Prelude.{ℕ, List, Option, ◌≡◌, ◌<◌, ◌+◌, ◌^◌, ◌⊎◌}
+use Rattle.std.specs.Prelude.{ℕ, List, Option, ◌≡◌, ◌+◌, ◌⊎◌}
 use Rattle.std.specs.Arc.{arc_value}
 use Rattle.pg_cancel.specs.Connections.{Connection, Issuer}
 use Rattle.many_clients.specs.Jobs.{ServesEach}
 use Rattle.relation_files.specs.Files.{IsToldBy}
 use Rattle.relation_tables.specs.declared.Relation.{Relation}
 use Rattle.relation_server.specs.declared.connection_job.ConnectionJob.{ConnectionJob}
-
--- Fewer than 2^63 connections were accepted so far, and fewer than 2^63 jobs started, so that both counts can grow.
-abbrev pub HasRoom : ℕ → ℕ → Type 0
-HasRoom accepted started = (accepted < 2 ^ 63) × (started < 2 ^ 63)
 
 -- This job serves these relations, with so many turns, to the client of this connection, under this registration.
 abbrev pub IsRelationJobOf : {S K : Type 0} → List Relation → ℕ → Connection → S × K → ConnectionJob S K → Type 0

@@ -1,12 +1,12 @@
 //! Many clients of relations at once: each connection is registered and served by a job of its own.
 
-ghost use Rattle.std.specs.Prelude.{◌≡◌, ◌↔◌, ◌+◌, ℕ, Err};
+ghost use Rattle.std.specs.Prelude.{◌≡◌, ◌↔◌, ◌<◌, ◌+◌, ◌^◌, ℕ, Err};
 ghost use Rattle.std.specs.Arc.{arc_value};
 ghost use mathlib.Core.List.{IsPrefix};
 ghost use Rattle.many_clients.specs.Jobs.{ServesEach};
 ghost use Rattle.many_clients.specs.Listening.{HasEndedSo, NeverFalls, IsRefusedAt, taking_of};
 ghost use Rattle.many_clients.specs.declared.accept_loop.ListenError.{ListenError};
-ghost use Rattle.relation_server.specs.RelationJobs.{HasRoom, IsRelationJobOf};
+ghost use Rattle.relation_server.specs.RelationJobs.{IsRelationJobOf};
 
 use crate::connection_job::ConnectionJob;
 use conversation_runs::{Sink, Source};
@@ -37,7 +37,8 @@ pub fn listen<R: Wait, A: Acceptor, P: Spawner<ConnectionJob<A::In, A::Out>>, G:
     count: Option<u64>,
 ) -> Result<u64, ListenError>
     requires issued { door.old.issuer ≡ arc_value manager }
-    requires room { HasRoom (A.accepted acceptor.old) (P.started spawner.old) }
+    requires accepted { A.accepted acceptor.old < 2 ^ 63 }
+    requires started { P.started spawner.old < 2 ^ 63 }
     ensures ended { HasEndedSo result count
         (taking_of A.accepted A.faults P.started P.faults acceptor.old spawner.old)
         (taking_of A.accepted A.faults P.started P.faults acceptor.new spawner.new)

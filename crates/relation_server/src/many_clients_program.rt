@@ -1,15 +1,15 @@
 //! The program over many clients: its command `listen`.
 
-ghost use Rattle.std.specs.Prelude.{◌≡◌, [], ◌∷◌};
+ghost use Rattle.std.specs.Prelude.{◌≡◌, ◌<◌, ◌^◌, [], ◌∷◌};
 ghost use Rattle.std.specs.Arc.{arc_value};
 ghost use Rattle.relation_words.specs.Listening.{listen_count_of};
 ghost use Rattle.relation_server.specs.declared.outcome.Outcome.{Outcome};
 ghost use mathlib.Core.List.{IsPrefix};
-ghost use Rattle.many_clients.specs.Listening.{taking_of};
+ghost use Rattle.many_clients.specs.Listening.{DoorGoesOn, HasRoom, taking_of};
 ghost use Rattle.relation_server.specs.Outcomes.{status_of, line_of};
 ghost use Rattle.status_lines.specs.Counts.{CountsNeverFall};
 ghost use Rattle.status_lines.specs.StatusLines.{IsReported};
-ghost use Rattle.relation_server.specs.RelationJobs.{HasRoom, ServesFile};
+ghost use Rattle.relation_server.specs.RelationJobs.{ServesFile};
 ghost use Rattle.relation_server.specs.Program.{HasListened, HasRunListening, SharesRelations, listen_surroundings, outcome_of};
 
 use crate::accept_loop::listen;
@@ -63,7 +63,8 @@ pub fn run_listen<
     err: &mut E,
 ) -> u8
     requires issued { door.old.issuer ≡ arc_value manager }
-    requires room { HasRoom (A.accepted acceptor.old) (P.started spawner.old) }
+    requires accepted { A.accepted acceptor.old < 2 ^ 63 }
+    requires started { P.started spawner.old < 2 ^ 63 }
     ensures ran { (outcome : Outcome) × HasRunListening (listen_count_of words.now) outcome
         (listen_surroundings (F.left file.old) (F.faults file.old)
         (taking_of A.accepted A.faults P.started P.faults acceptor.old spawner.old) door.old.seen)
@@ -123,8 +124,7 @@ fn listen_over<
     ensures never_falls { CountsNeverFall
         (F.faults file.old ∷ A.faults acceptor.old ∷ P.faults spawner.old ∷ [])
         (F.faults file.new ∷ A.faults acceptor.new ∷ P.faults spawner.new ∷ []) }
-    ensures seen { IsPrefix door.old.seen door.new.seen }
-    ensures issued { door.new.issuer ≡ door.old.issuer }
+    ensures door { DoorGoesOn door.old door.new }
 {
     match shared_relations(alloc, file) {
         Err(outcome) => outcome,

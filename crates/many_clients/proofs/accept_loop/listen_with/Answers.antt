@@ -41,11 +41,11 @@ connections-preserved g c =
           (g.P.Spawner.taken c.args.spawner.now) (g.P.Spawner.taken c.connections.spawner) (g.P.Spawner.taken c.take_in.new.spawner)
           c.connections.pid (c.connections.pid + 1) refl i.served c.in_ok-take_in.ensures.job;
       falls = (
-        omega (arith, i.falls.0, c.take_in.ensures.never_falls.0),
-        omega (arith, i.falls.1, c.take_in.ensures.never_falls.1),
+        omega (arith, i.falls.0, c.take_in.ensures.goes_on.never_falls.0),
+        omega (arith, i.falls.1, c.take_in.ensures.goes_on.never_falls.1),
       );
-      seen = prefix_trans c.args.door.now.seen c.connections.door.seen c.take_in.new.door.seen i.seen c.take_in.ensures.seen;
-      issued = c.take_in.ensures.issued ∙ i.issued;
+      seen = prefix_trans c.args.door.now.seen c.connections.door.seen c.take_in.new.door.seen i.seen c.take_in.ensures.goes_on.door.0;
+      issued = c.take_in.ensures.goes_on.door.1 ∙ i.issued;
     }
 
 pub returns-in_err-take_in-clause-ended : goal.returns-in_err-take_in-clause-ended
@@ -60,7 +60,7 @@ returns-in_err-take_in-clause-ended g c =
     c.take_in.new.spawner)
     c.args.door.now.seen c.connections.door.seen c.take_in.new.door.seen c.connections.pid (c.connections.pid + 1) refl
     (omega (arith, c.connections-test.true, c.most_connections-most.ensures.count)) (i.accepted, i.started) i.registered i.falls
-    c.take_in.ensures.never_falls c.in_err-take_in.ensures.taken)
+    c.take_in.ensures.goes_on.never_falls c.in_err-take_in.ensures.taken)
 
 pub returns-in_err-take_in-clause-jobs : goal.returns-in_err-take_in-clause-jobs
 returns-in_err-take_in-clause-jobs g c =
@@ -90,7 +90,17 @@ returns-in_err-take_in-clause-exactly g c m =
 
 pub returns-in_err-take_in-clause-seen : goal.returns-in_err-take_in-clause-seen
 returns-in_err-take_in-clause-seen g c =
-    prefix_trans c.args.door.now.seen c.connections.door.seen c.take_in.new.door.seen c.connections.invariant.seen c.take_in.ensures.seen
+    prefix_trans c.args.door.now.seen c.connections.door.seen c.take_in.new.door.seen c.connections.invariant.seen
+    c.take_in.ensures.goes_on.door.0
+
+pub returns-in_err-take_in-clause-issued : goal.returns-in_err-take_in-clause-issued
+returns-in_err-take_in-clause-issued g c = c.take_in.ensures.goes_on.door.1 ∙ c.connections.invariant.issued
+
+pub returns-in_err-take_in-clause-never_falls : goal.returns-in_err-take_in-clause-never_falls
+returns-in_err-take_in-clause-never_falls g c =
+    let i = c.connections.invariant in
+    let t = c.take_in.ensures.goes_on.never_falls in
+    (omega (arith, i.falls.0, t.0), omega (arith, i.falls.1, t.1))
 
 pub returns-clause-jobs : goal.returns-clause-jobs
 returns-clause-jobs g c =

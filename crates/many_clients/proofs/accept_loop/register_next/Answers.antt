@@ -34,8 +34,7 @@ returns-in_err-key g c =
       fresh = tt;
       admitted = tt;
       refused = refl;
-      seen = prefix_self c.args.door.now.seen;
-      issued = refl;
+      door = (prefix_self c.args.door.now.seen, refl);
     })
 
 pub returns-in-Ok-clause-handle : goal.returns-in-Ok-clause-handle
@@ -58,8 +57,8 @@ returns-in-Ok-clause-admitted g c =
     c.in-Ok.ensures.registered in
     admits number c.args.pid key seen seen' registered
 
-pub returns-in-Ok-clause-seen : goal.returns-in-Ok-clause-seen
-returns-in-Ok-clause-seen g c = goes_on _ _ _ _ _ c.in-Ok.ensures.registered
+pub returns-in-Ok-clause-door : goal.returns-in-Ok-clause-door
+returns-in-Ok-clause-door g c = (goes_on _ _ _ _ _ c.in-Ok.ensures.registered, c.register.ensures.issued)
 
 pub returns-in-Err-PidTaken-clause-refused : goal.returns-in-Err-PidTaken-clause-refused
 returns-in-Err-PidTaken-clause-refused g c =
@@ -73,11 +72,11 @@ returns-in-Err-PidTaken-clause-refused g c =
     let registered = subst (λ pid. Registers taken.0 (Register pid key) seen seen' (Taken m)) (to_z_pos w32 c.args.pid fits) taken.1 in
     refuses m taken.0 c.args.pid key seen seen' registered
 
-pub returns-in-Err-PidTaken-clause-seen : goal.returns-in-Err-PidTaken-clause-seen
-returns-in-Err-PidTaken-clause-seen g c =
+pub returns-in-Err-PidTaken-clause-door : goal.returns-in-Err-PidTaken-clause-door
+returns-in-Err-PidTaken-clause-door g c =
     let m = c.in-Err-PidTaken.holder in
     let is : c.register.result ≡ Err (refusal.PidTaken m) = c.in-Err-PidTaken.is ∙ ap Err c.in-Err-PidTaken.field-0-is in
-    goes_on _ _ _ _ _ (c.register.ensures.taken m is).1
+    (goes_on _ _ _ _ _ (c.register.ensures.taken m is).1, c.register.ensures.issued)
 
 pub returns-in-Err-NoMemory : goal.returns-in-Err-NoMemory
 returns-in-Err-NoMemory g c =
@@ -88,6 +87,8 @@ returns-in-Err-NoMemory g c =
       fresh = tt;
       admitted = tt;
       refused = same;
-      seen = subst (λ l. IsPrefix c.args.door.now.seen l) (sym same) (prefix_self c.args.door.now.seen);
-      issued = c.register.ensures.issued;
+      door = (
+        subst (λ l. IsPrefix c.args.door.now.seen l) (sym same) (prefix_self c.args.door.now.seen),
+        c.register.ensures.issued,
+      );
     }
