@@ -131,6 +131,6 @@ abbrev pub DoorGoesOn : Witness → Witness → Type 0
 DoorGoesOn old new = IsPrefix old.seen new.seen × (new.issuer ≡ old.issuer)
 
 -- A server goes on: no count of faults has fallen, and its door goes on.
-pub record ServerGoesOn (old new : Taking) (door new_door : Witness) : Type 0 where
-  pub never_falls : NeverFalls old new
-  pub door : DoorGoesOn door new_door
+pub record ServerGoesOn (taken new_taken : Taking) (old new : Witness) : Type 0 where
+  pub never_falls : NeverFalls taken new_taken
+  pub door : DoorGoesOn old new
