@@ -3,9 +3,9 @@
 #![tactic(auto)]
 
 mod reporting;
-mod shared_relations;
+mod service;
 mod sharing;
 
 pub use reporting::report_listened;
-pub use shared_relations::SharedRelations;
+pub use service::SharedRelations;
 pub use sharing::shared_relations;
