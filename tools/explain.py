@@ -61,10 +61,11 @@ NUMBERS = {"PID": (1, 2147483647), "TURNS": (1, MOST), "SEED": (0, MOST), "N": (
 KINDS = {name: number(*bounds) for name, bounds in NUMBERS.items()}
 KINDS |= {"KEY": key, "PATH": path, "START": start, "STYLE": style, "FILE": any_word, "RELATION": any_word, "COLUMN": any_word}
 SERVE = "serve FILE PID KEY [TURNS]"
+LISTEN = ["listen tcp PORT FILE [COUNT]", "listen unix PATH FILE [COUNT]"]
 # The orders of each program. A name in capitals stands for a word, one in brackets may be left out.
 ORDERS = {
-    "relation_server": [SERVE, "demo SEED N", "listen tcp PORT FILE [COUNT]", "listen unix PATH FILE [COUNT]"],
-    "pg_cursor": [SERVE],
+    "relation_server": [SERVE, "demo SEED N", *LISTEN],
+    "pg_cursor": [SERVE, *LISTEN],
     "pg_replay": ["record FILE PID KEY", "verify FILE"],
     "rota_report": ["lines FILE RELATION COLUMN START STYLE", "clashes FILE RELATION COLUMN START RELATION COLUMN START"],
 }

@@ -1,13 +1,13 @@
 #!/usr/bin/env bash
-# Runs tools/try_cursor.sql by psql over the program `pg_cursor`, and compares what it prints with tools/try_cursor.expected: by
-# the proved program where it was built, else by the one that is built unproved. The program serves a client on standard input,
-# and tools/program_per_client.py lets psql reach it over TCP.
+# Runs tools/try_cursor.sql by psql over `pg_cursor listen`, and compares what it prints with tools/try_cursor.expected; then tries
+# two clients at once, and a cancel of a FETCH (tools/try_cursor_clients.py): by the proved program where it was built, else by the
+# one that is built unproved.
 set -eu
 cd "$(dirname "$0")/.."
 export LC_ALL=C PGCONNECT_TIMEOUT=60
 folder=$(mktemp -d)
-bridge=
-trap 'kill $bridge 2> /dev/null || true; rm -rf "$folder"' EXIT
+server=
+trap 'kill $server 2> /dev/null || true; rm -rf "$folder"' EXIT
 
 # Waits until a command succeeds, as long as a process lives; then tells what that said.
 while_alive() {
@@ -23,14 +23,15 @@ while_alive() {
 
 program=$(python3 -B tools/programs.py cursor)
 port=$(python3 -c 'import socket; s = socket.socket(); s.bind(("127.0.0.1", 0)); print(s.getsockname()[1])')
-python3 tools/program_per_client.py "$port" 1 "$program" serve "$PWD/data/rosters" 7 01020304 > "$folder/bridge" 2>&1 &
-bridge=$!
-while_alive "$bridge" "$folder/bridge" grep -qs listening "$folder/bridge"
+"$program" listen tcp "$port" "$PWD/data/rosters" 1 < /dev/null > "$folder/server" 2>&1 &
+server=$!
+while_alive "$server" "$folder/server" grep -qs listening "$folder/server"
 psql -X -a -h 127.0.0.1 -p "$port" -U demo -d rosters < tools/try_cursor.sql > "$folder/printed" 2>&1 || true
-if ! wait "$bridge"; then
-  cat "$folder/bridge"
+if ! wait "$server"; then
+  cat "$folder/server"
   exit 1
 fi
-bridge=
+server=
 diff -u tools/try_cursor.expected "$folder/printed"
 echo "psql printed what tools/try_cursor.expected has, and the program ended by itself."
+python3 -B tools/try_cursor_clients.py "$program"
