@@ -1,5 +1,5 @@
 -- A clash more.
-use Rattle.std.proofs.Common.{◌∙◌, ◌+◌, List, [], refl, sym, ap, subst, drop, take, string_bytes}
+use Rattle.std.proofs.Common.{◌∙◌, ◌+◌, ℕ, List, [], refl, sym, ap, subst, drop, take, string_bytes}
 use Rattle.std.proofs.lemmas.List.{take_all}
 use Rattle.conversation_runs.specs.Streams.{GrowsByFront}
 use Rattle.rota_lines.specs.Lines.{clash_text}

@@ -89,3 +89,10 @@ returns c =
     on_ok_weaker c.put_two-2.result (λ last. date_put day _ _ _ _ _ _ _ _ _
     (year_passed c.to_plain-date.result.year _ e.year e.high) (c.from.ensures ∙ e.month) (c.from-2.ensures ∙ e.day)
     c.in_ok-put_year.ensures c.in_ok-push.ensures.bytes c.in_ok-put_two.ensures c.in_ok-push-2.ensures.bytes last) c.put_two-2.ensures
+
+pub overflow_cast-date : goal.overflow_cast-date
+overflow_cast-date c =
+    let day = c.args.self.now.day in
+    let e = date_found day _ c.date_at.result c.to_plain-date.result c.requires.0 (day_passed day c.requires.0) c.date_at.ensures
+    c.to_plain-date.ensures in
+    omega (arith, ints, e.year, e.high)
