@@ -1,7 +1,10 @@
 #!/usr/bin/env bash
-# Builds tokio_postgres.rs over Debian's packages of Rust crates, without the network, and runs it: tokio_postgres.sh HOST PORT.
+# Builds tokio_postgres.rs over Debian's packages of Rust crates, without the network, and runs it: tokio_postgres.sh HOST PORT. With
+# SOURCE=NAME in the environment it takes NAME.rs in its place. The crates that are built are kept in .built.
 set -eu
-source=$(cd "$(dirname "$0")" && pwd)/tokio_postgres.rs
+name=${SOURCE:-tokio_postgres}
+source=$(cd "$(dirname "$0")" && pwd)/$name.rs
+export CARGO_TARGET_DIR=${source%/tools/*}/.built/tokio_postgres
 folder=$(mktemp -d)
 trap 'rm -rf "$folder"' EXIT
 mkdir "$folder/.cargo"
@@ -13,15 +16,18 @@ directory = "/usr/share/cargo/registry"
 END
 cat > "$folder/Cargo.toml" <<END
 [package]
-name = "tokio_postgres_client"
+name = "clients"
 version = "0.0.0"
 edition = "2021"
+[profile.dev]
+debug = false
 [[bin]]
-name = "tokio_postgres_client"
+name = "$name"
 path = "$source"
 [dependencies]
+bytes = "1"
 tokio = { version = "1", features = ["rt", "net", "time"] }
 tokio-postgres = "0.7"
 END
 (cd "$folder" && cargo build --offline --quiet)
-"$folder/target/debug/tokio_postgres_client" "$@"
+"$CARGO_TARGET_DIR/debug/$name" "$@"
