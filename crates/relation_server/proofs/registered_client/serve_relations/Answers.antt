@@ -7,8 +7,7 @@ pub returns-clause-went : goal.returns-clause-went
 returns-clause-went g c =
     let relations = c.args.relations.now in
     let served = c.serve_registered in
-    let went = served.ensures.went in
-    (
+    let went = served.ensures.went in (
       went.0,
       went.1,
       went_by_tables relations (c.args.handle.now.pid, c.args.handle.now.key) c.relations-valid.ensures.within
