@@ -28,12 +28,13 @@ serve:
 
 # Runs psql over the sample relations, and compares what it prints; then cancels queries by the keys of 3.0 and of 3.2; then
 # tries a server with few descriptors and threads, large batches, where it listens, and Unix sockets that were left over; then
-# brings each program to each of its statuses; then sends half a client, and the rest once that was answered; then runs files,
-# clients, replies, recordings and reports that are larger than each buffer; then sees that a server's size stays over 40,000
-# queries (tools/try_soak 100000 takes more); then tells the rotas of README.md; then runs psql's cursors over `pg_cursor`; then
-# records the sample client, verifies it, and sees changes named; then runs the examples of the pages and of each --help; then
-# tries the clients of docs/CLIENTS.md that are installed; then follows docs/HANDLERS.md on a copy of the repository. make try
-# NAMES="psql keys" for some of these.
+# tries each program that listens with a hostile crowd, while another client's queries are timed; then brings each program to
+# each of its statuses; then sends half a client, and the rest once that was answered; then runs files, clients, replies,
+# recordings and reports that are larger than each buffer; then sees that a server's size stays over 40,000 queries
+# (tools/try_soak 100000 takes more); then tells the rotas of README.md; then runs psql's cursors over `pg_cursor`; then records
+# the sample client, verifies it, and sees changes named; then runs the examples of the pages and of each --help; then tries the
+# clients of docs/CLIENTS.md that are installed; then follows docs/HANDLERS.md on a copy of the repository. make try NAMES="psql
+# keys" for some of these.
 try:
 	@python3 -B tools/try_all.py $(NAMES)
 

@@ -53,7 +53,7 @@ def lacking(names, known):
     """Those names that aren't known, nor are scripts, nor words of the script that is named before them."""
     script = ""
     for name in names:
-        if re.fullmatch(r"(tools|bench)/\w+(\.\w+)?", name) and (TOP / name).is_file():
+        if re.fullmatch(r"(tools|bench)(/\w+)+(\.\w+)?", name) and (TOP / name).is_file():
             script = (TOP / name).read_text()
         elif not any(name in some for some in known) and name not in script:
             yield name

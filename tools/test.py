@@ -13,7 +13,7 @@ import re
 import subprocess
 import sys
 
-from programs import NAMES, TOP, kit, note, proved
+from programs import NAMES, OVER_HANDLERS, TOP, kit, note, proved
 
 PAGES = ["definitions.py", "contracts.py", "check_wrong_bodies.py", "check_sources.py"]
 
@@ -49,7 +49,7 @@ def proofs():
     kit()
     passed, failed = counted(["rt", "ci"])
     if not failed:
-        for crate in [*NAMES, "styles_server"]:
+        for crate in [*NAMES, *OVER_HANDLERS]:
             if (TOP / "crates" / crate / "out" / crate).is_file():
                 note(crate)
     return passed, failed

@@ -10,13 +10,14 @@ import subprocess
 import sys
 import time
 
-from programs import NAMES, TOP, program
+from programs import NAMES, OVER_HANDLERS, TOP, program
 
 # Each script by its name, with the commands that it needs.
 SCRIPTS = {
     "psql": ("tools/try_psql.sh", ["psql"]),
     "keys": ("tools/try_keys", []),
     "limits": ("tools/try_limits", []),
+    "hostile": ("tools/try_hostile", []),
     "statuses": ("tools/try_statuses", []),
     "halves": ("tools/try_halves", []),
     "large": ("tools/try_large", []),
@@ -48,7 +49,7 @@ def main():
     if "--unproved" in sys.argv:
         os.environ["UNPROVED"] = "1"
     if not words or set(words) - set(ALONE):
-        for crate in [*NAMES, "styles_server"]:
+        for crate in [*NAMES, *OVER_HANDLERS]:
             program(crate)
     passed, failed, skipped = 0, [], []
     for name in words or SCRIPTS:

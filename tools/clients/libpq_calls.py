@@ -8,7 +8,7 @@ TEXT, BINARY = 0, 1
 
 for name, result, *arguments in [
     ("PQconnectdb", "p", "s"), ("PQstatus", "i", "p"), ("PQfinish", "v", "p"), ("PQerrorMessage", "s", "p"), ("PQsocket", "i", "p"),
-    ("PQexec", "p", "p", "s"), ("PQexecParams", "p", "p", "s", "i", "p", "p", "p", "p", "i"), ("PQprepare", "p", "p", "s", "s", "i", "p"),
+    ("PQexec", "p", "p", "s"), ("PQprepare", "p", "p", "s", "s", "i", "p"),
     ("PQexecPrepared", "p", "p", "s", "i", "p", "p", "p", "i"), ("PQdescribePrepared", "p", "p", "s"), ("PQclear", "v", "p"),
     ("PQsendQuery", "i", "p", "s"), ("PQsendQueryParams", "i", "p", "s", "i", "p", "p", "p", "p", "i"), ("PQgetResult", "p", "p"),
     ("PQconsumeInput", "i", "p"), ("PQisBusy", "i", "p"), ("PQenterPipelineMode", "i", "p"), ("PQpipelineSync", "i", "p"),
@@ -33,7 +33,7 @@ def told(result):
     status = LIBRARY.PQresultStatus(result)
     if status == FATAL:
         code, message = (LIBRARY.PQresultErrorField(result, ord(field)) for field in "CM")
-        line = f"{(code or b'').decode()} {(message or LIBRARY.PQerrorMessage(None) or b'').decode()}".strip()
+        line = f"{(code or b'no code').decode()} {(message or b'').decode()}"
     elif status == ROWS:
         rows = range(LIBRARY.PQntuples(result))
         columns = range(LIBRARY.PQnfields(result))
@@ -60,8 +60,10 @@ class Connection:
         return told(LIBRARY.PQexec(self.it, text.encode()))
 
     def extended(self, text, values=(), formats=(), results=TEXT, types=()):
-        """Parse, Bind, Describe, Execute and Sync, with values of these formats."""
-        return told(LIBRARY.PQexecParams(self.it, text.encode(), len(values), *self.given(types, values, formats), results))
+        """Parse, Bind, Describe, Execute and Sync, with values of these formats. The first result is told: behind an error that ends the
+        connection there is another one, that it ended."""
+        LIBRARY.PQsendQueryParams(self.it, text.encode(), len(values), *self.given(types, values, formats), results)
+        return self.answer()
 
     @staticmethod
     def given(types, values, formats):

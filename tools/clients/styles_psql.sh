@@ -38,4 +38,4 @@ echo '2 days;' >&"${staying[1]}"
 read -r said <&"${staying[0]}"
 echo "the client that stayed: $said"
 echo '\q' >&"${staying[1]}"
-wait "$staying_PID"
+wait

@@ -1,4 +1,5 @@
-//! Tests of what takes clients in and serves them, over fakes that tell what they give and take.
+//! Tests of what takes clients in and serves them: over fakes that tell what they give and take, and
+//! on threads.
 #![tactic(auto)]
 
 #[cfg(test)]
@@ -7,3 +8,5 @@ mod fakes;
 mod listening_tests;
 #[cfg(test)]
 mod registry;
+#[cfg(test)]
+mod threads_tests;

@@ -8,3 +8,5 @@ mod clients;
 mod listening_tests;
 #[cfg(test)]
 mod spawner_tests;
+#[cfg(test)]
+mod told_tests;

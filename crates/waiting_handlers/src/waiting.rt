@@ -1,5 +1,7 @@
 //! A query whose polls wait.
 
+ghost use Rattle.std.specs.Prelude.{◌≡◌};
+
 use pg_handlers::{PolledQuery, QueryState, Turn};
 use pg_portal::PgWireError;
 use std::alloc::AllocError;
