@@ -16,6 +16,6 @@ returns-in_default-clause-serves g c =
     g.D.CancelDesk.told c.args.source.now c.args.sink.now c.args.desk.now)
 
 pub returns-in_default-clause-also : goal.returns-in_default-clause-also
-returns-in_default-clause-also g c most owe = 
+returns-in_default-clause-also g c most owe =
     let counts = counts_of g.S.Source.reads g.S.Source.faults g.K.Sink.faults c.args.source.now c.args.sink.now in
     complete_at_want most c.args.turn_limit (g.S.Source.left c.args.source.now) counts counts
