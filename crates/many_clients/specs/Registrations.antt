@@ -42,6 +42,13 @@ pub record HasConversedBy {T : Type 0} (rules : Rules T) (first : T) (h : Connec
   pub never_falls : FaultsNeverFall before after
   pub gave : ReadsGaveBytes left new_left before.reads after.reads
 
+-- A client was served and has left, as above, and what is promised beside holds.
+pub record HasBeenServed {T : Type 0} (rules : Rules T) (first : T)
+    (also : ℕ → Result EndKind ServeError → Option (List ℕ) → Counts → Counts → Type 0) (h : Connection) (turns : ℕ)
+    (answer : Result EndKind ServeError) (left new_left old new : Option (List ℕ)) (before after : Counts) (note : Witness) : Type 0 where
+  pub conversed : HasConversedBy rules first h turns answer left new_left old new before after note
+  pub promised : also turns answer left before after
+
 -- A client's service was run to its end by these rules from this state on: the client was served, and its registration then ended,
 -- whatever came of it; and what is promised beside holds.
 pub record HasRunBy {T : Type 0} (rules : Rules T) (first : T)

@@ -2,7 +2,7 @@
 
 ghost use Rattle.std.specs.Prelude.{◌≡◌};
 ghost use Rattle.pg_engine.specs.Serving.{counts_of};
-ghost use Rattle.many_clients.specs.Registrations.{HasConversedBy};
+ghost use Rattle.many_clients.specs.Registrations.{HasBeenServed, HasConversedBy};
 
 use crate::admitted::AdmittedClient;
 use crate::registered::{leave, serve_registered};
@@ -76,14 +76,11 @@ fn serve_and_leave<R: Wait, V: Service, S: Source, K: Sink>(
     turn_limit: u64,
 ) -> (Result<EndKind, ServeError>, Note)
     requires issued { handle.issuer ≡ manager.now }
-    ensures conversed { HasConversedBy (V.rules service.now)
-        (V.first service.now handle.pid handle.key) handle turn_limit result.0
+    ensures { HasBeenServed (V.rules service.now) (V.first service.now handle.pid handle.key)
+        (V.also service.now) handle turn_limit result.0
         (S.left source.old) (S.left source.new) (K.written sink.old) (K.written sink.new)
         (counts_of S.reads S.faults K.faults source.old sink.old)
         (counts_of S.reads S.faults K.faults source.new sink.new) result.1 }
-    ensures also { V.also service.now turn_limit result.0 (S.left source.old)
-        (counts_of S.reads S.faults K.faults source.old sink.old)
-        (counts_of S.reads S.faults K.faults source.new sink.new) }
 {
     let mut handle = handle;
     let answer = serve_registered(

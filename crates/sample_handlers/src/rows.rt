@@ -25,17 +25,6 @@ const NULL_ROW: [u8; 9] = [0, 0, 0, 1, b'b', 255, 255, 255, 255];
 /// Rows, and errors in place of rows.
 type Items = PgList<Result<DataRow, PgWireError>>;
 
-/// Appends an item that can be sent.
-#[tactic(auto, using(crate::proofs::LongRows::each_append))]
-fn push_item(items: &mut Items, item: Result<DataRow, PgWireError>) -> Result<(), AllocError>
-    requires { IsSendable item }
-    ensures ok { OnOk result (items.new ≡ items.old ++ item ∷ []) }
-    ensures sendable { OnOk result
-        (AllByRecursion IsSendable items.old → AllByRecursion IsSendable items.new) }
-{
-    Ok(items.push(item)?)
-}
-
 /// Appends the row of `a` and one day.
 fn push_first(alloc: Global, format: FieldFormat, items: &mut Items) -> Result<(), AllocError>
     ensures ok { OnOk result (items.new ≡ items.old ++ Ok (first_row format) ∷ []) }
@@ -49,6 +38,7 @@ fn push_first(alloc: Global, format: FieldFormat, items: &mut Items) -> Result<(
 }
 
 /// Appends a row of two cells.
+#[tactic(auto, using(crate::proofs::LongRows::each_append))]
 fn push_row(alloc: Global, payload: &[u8], items: &mut Items) -> Result<(), AllocError>
     requires { length payload.now ≤ 100 }
     ensures ok { OnOk result (items.new
@@ -61,17 +51,18 @@ fn push_row(alloc: Global, payload: &[u8], items: &mut Items) -> Result<(), Allo
         payload,
         field_count: 2,
     };
-    push_item(items, Ok(row))
+    Ok(items.push(Ok(row))?)
 }
 
 /// Appends an error in place of a row.
+#[tactic(auto, using(crate::proofs::LongRows::each_append))]
 fn push_error(alloc: Global, items: &mut Items) -> Result<(), AllocError>
     ensures ok { OnOk result (items.new ≡ items.old ++ Err division_by_zero ∷ []) }
     ensures sendable { OnOk result
         (AllByRecursion IsSendable items.old → AllByRecursion IsSendable items.new) }
 {
     let error = division_by_zero(alloc)?;
-    push_item(items, Err(error))
+    Ok(items.push(Err(error))?)
 }
 
 /// Both rows, the interval in this format.

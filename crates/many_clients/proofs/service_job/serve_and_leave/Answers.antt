@@ -28,5 +28,5 @@ returns g c =
         never_falls = told.serves.never_falls;
         gave = told.serves.reads;
       };
-      also = told.also;
+      promised = told.also;
     }
