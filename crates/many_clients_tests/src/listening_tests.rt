@@ -3,6 +3,7 @@
 ghost use Rattle.std.specs.Prelude.{◌≡◌, IfSome};
 
 use crate::fakes::{Keeping, OneKey, Refusing, Silence, Waiting};
+use client_listening::take_in_clients;
 use many_clients::{AdmittedClient, AdmittedClients, HandlerService, ServiceJob, listen_with};
 use pg_session::{EndKind, NoopHandler, PgWireServerHandlers};
 use sample_registry::Registry;
@@ -82,6 +83,36 @@ fn each_connection_becomes_a_client(rt: HostRuntime) {
             && are_clients(keeping.jobs.as_slice())),
         None => false,
     };
+    assert!(rt; are_so);
+}
+
+/// Takes in the connections that wait, as many as `count`, over a registry of their own.
+fn take_in_alone<R: Wait>(rt: &R, alloc: Global, count: u64) -> Option<Keeping<SilentClient>> {
+    let mut waiting = three_waiting(alloc)?;
+    let mut keeping = Keeping::new(alloc);
+    let mut keys = OneKey { alloc };
+    let taken = take_in_clients(
+        rt,
+        alloc,
+        &mut waiting,
+        &mut keeping,
+        &mut keys,
+        Some(count),
+        TURNS,
+    );
+    if taken == Ok(count) {
+        Some(keeping)
+    } else {
+        None
+    }
+}
+
+/// Clients that are taken in over a new registry have the pids from 1 on, too.
+#[test]
+fn clients_are_taken_in_over_a_new_registry(rt: HostRuntime) {
+    let keeping = take_in_alone(&rt, rt.alloc(), 2);
+    let are_so = keeping.is_some_and(|keeping| keeping.started == 2
+        && are_clients(keeping.jobs.as_slice()));
     assert!(rt; are_so);
 }
 

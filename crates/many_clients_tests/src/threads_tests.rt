@@ -4,7 +4,8 @@ ghost use Rattle.std.specs.Prelude.{◌≡◌, IfSome};
 ghost use Rattle.many_clients.specs.Registrations.{IsFresh};
 ghost use Rattle.pg_streams.specs.Sockets.{reads_of};
 
-use many_clients::{AdmittedClient, HandlerService, JobThreads, ServiceJob};
+use client_listening::ServiceThreads;
+use many_clients::{AdmittedClient, HandlerService};
 use pg_streams::{Counted, MaybeTls};
 use sample_handlers::{SampleCopying, SampleHandlers};
 use sample_registry::Registry;
@@ -16,14 +17,10 @@ use std::sync::{Arc, Wait};
 use std::thread::Threads;
 use std::time::Clock;
 
-/// The service of a client at a socket, by sample handlers.
-type SocketJob = ServiceJob<HandlerService<SampleHandlers>, MaybeTls, MaybeTls>;
-
-/// What serves clients: the threads, the handlers that they share, and the registry.
+/// What serves clients: sample handlers that they share, on threads, and the registry.
 #[derive(Drop)]
 struct Stage {
-    threads: JobThreads<SocketJob>,
-    handlers: Arc<SampleHandlers>,
+    server: ServiceThreads<HandlerService<SampleHandlers>>,
     registry: Registry,
 }
 
@@ -31,9 +28,9 @@ impl Stage {
     /// Nobody is served yet.
     fn new(alloc: Global) -> Option<Stage> {
         let handlers = SampleHandlers::new(SampleCopying::Noop);
+        let handlers = Arc::new(alloc, handlers).ok()?;
         Some(Stage {
-            threads: JobThreads::new(alloc).ok()?,
-            handlers: Arc::new(alloc, handlers).ok()?,
+            server: ServiceThreads::new(alloc, HandlerService { handlers }).ok()?,
             registry: Registry::new(alloc)?,
         })
     }
@@ -68,9 +65,8 @@ impl Stage {
     ) -> Option<UnixStream> {
         let (stream, served) = UnixStream::pair(&rt).ok()?;
         let client = self.admitted(&rt, pid, served)?;
-        let handlers = Arc::try_clone(&self.handlers).ok()?;
-        let service = HandlerService { handlers };
-        let tries = self.threads.start(rt, ServiceJob { service, client });
+        let job = self.server.job_of(client);
+        let tries = self.server.threads.start_made(rt, job);
         if tries.is_started && tries.failed == 0 {
             Some(stream)
         } else {
@@ -125,7 +121,7 @@ fn is_second_served_first<R: Threads + Wait + Clock + Net + Copy + Send + 'stati
     let are_served = is_served(&mut second, 2) && is_served(&mut first, 1);
     drop(first);
     drop(second);
-    stage.threads.finish(&rt);
+    stage.server.threads.finish(&rt);
     Some(are_served && stage.registry.is_free(&rt, 1) && stage.registry.is_free(&rt, 2))
 }
 
@@ -177,7 +173,7 @@ fn are_two_served_behind<R: Threads + Wait + Clock + Net + Copy + Send + 'static
     let mut first = stage.start(rt, 101)?;
     let mut second = stage.start(rt, 102)?;
     let are_both = is_served(&mut second, 102) && is_served(&mut first, 101);
-    stage.threads.finish(&rt);
+    stage.server.threads.finish(&rt);
     Some(
         are_served
             && are_both
