@@ -48,7 +48,7 @@ fn recorded_at<'w>(
     count: Option<Option<u64>>,
 ) -> Option<Listening<'w>>
     ensures { option_map told_listening result
-        ≡ recorded_at (option_map told_place place) file.now folder.now count }
+        ≡ recorded_at (option_map told_place place.entry) file.now folder.now count }
 {
     let place = place?;
     let count = count?;

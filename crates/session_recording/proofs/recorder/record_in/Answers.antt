@@ -38,7 +38,7 @@ recorded g c =
     (g.K.Sink.written c.serve_recorded-answer.new.sink) ready.small few_taken few_sent
     client_within replies_within client replies answer c.recording_of.result
     (subst (λ k. IfOk c.recording_of.result (IsMadeOf answer c.args.room registration.0 k kept)) ready.key
-    (subst (λ p. IfOk c.recording_of.result (IsMadeOf answer c.args.room p c.in-Ok.space.key kept))
+    (subst (λ p. IfOk c.recording_of.result (IsMadeOf answer c.args.room p space.key kept))
     (to_z-of_z w32 pid fits ∙ ready.pid) c.recording_of.ensures.made))
     c.recording_of.ensures.refused
 

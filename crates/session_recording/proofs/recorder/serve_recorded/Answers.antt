@@ -97,21 +97,6 @@ returns-clause-calls g c =
     ∙ ap (λ d. (g.D.CancelDesk.told d).calls ++ went.0) c.new-desk.ensures.desk
     ∙ ap (λ k. (g.D.CancelDesk.told c.args.desk.now).calls ++ k) kept
 
--- what is promised of the recorders is promised of what they stand over
-abbrev unrecorded : (g : Over) (c : goal.After-sink-2-1 g)
-    → (g.D → g.D → g.S → g.S → g.K → g.K → Type 0) → Type 0
-unrecorded g c P =
-    P c.new-desk.result.desk.now c.serve-answer.new.desk.desk.now c.new-source.result.source.now c.serve-answer.new.source.source.now
-    c.new-sink.result.sink.now c.serve-answer.new.sink.sink.now
-    → P c.args.desk.now c.desk-2-1.given.0 c.args.source.now c.source-2-1.given.0 c.args.sink.now c.sink-2-1.given.0
-
-as_unrecorded : (g : Over) (c : goal.After-sink-2-1 g) (P : g.D → g.D → g.S → g.S → g.K → g.K → Type 0) → unrecorded g c P
-as_unrecorded g c P =
-    of_same P c.new-desk.result.desk.now c.args.desk.now c.serve-answer.new.desk.desk.now c.desk-2-1.given.0 c.new-source.result.source.now
-    c.args.source.now c.serve-answer.new.source.source.now c.source-2-1.given.0 c.new-sink.result.sink.now c.args.sink.now
-    c.serve-answer.new.sink.sink.now c.sink-2-1.given.0 c.new-desk.ensures.desk (sym (desk_left g c)) c.new-source.ensures.source
-    (sym (source_left g c)) c.new-sink.ensures.sink (sym (sink_left g c))
-
 -- the client was served as without recorders
 pub returns-clause-serves : goal.returns-clause-serves
 returns-clause-serves g c =
@@ -120,9 +105,13 @@ returns-clause-serves g c =
     let told = g.D.CancelDesk.told in
     let round = around g.S.Source.left g.S.Source.reads g.S.Source.faults g.S.Source.origin g.K.Sink.written g.K.Sink.faults
     g.K.Sink.origin told in
-    as_unrecorded g c (λ d e s t k l. Serves (g.V.Service.rules service)
+    of_same (λ d e s t k l. Serves (g.V.Service.rules service)
     (g.V.Service.first service (told d).registration.0 (told d).registration.1) c.args.turn_limit c.serve-answer.result (round s k d)
-    (round t l e)) (record {
+    (round t l e))
+    c.new-desk.result.desk.now c.args.desk.now c.serve-answer.new.desk.desk.now c.desk-2-1.given.0 c.new-source.result.source.now
+    c.args.source.now c.serve-answer.new.source.source.now c.source-2-1.given.0 c.new-sink.result.sink.now c.args.sink.now
+    c.serve-answer.new.sink.sink.now c.sink-2-1.given.0 c.new-desk.ensures.desk (sym (desk_left g c)) c.new-source.ensures.source
+    (sym (source_left g c)) c.new-sink.ensures.sink (sym (sink_left g c)) (record {
       went = through.went;
       cause = through.cause;
       last = through.last;
@@ -137,6 +126,9 @@ returns-clause-serves g c =
 
 pub returns-clause-also : goal.returns-clause-also
 returns-clause-also g c =
-    as_unrecorded g c (λ d e s t k l. g.V.Service.also c.args.service.now c.args.turn_limit c.serve-answer.result (g.S.Source.left s)
+    of_same (λ d e s t k l. g.V.Service.also c.args.service.now c.args.turn_limit c.serve-answer.result (g.S.Source.left s)
     (counts_of g.S.Source.reads g.S.Source.faults g.K.Sink.faults s k) (counts_of g.S.Source.reads g.S.Source.faults g.K.Sink.faults t l))
-    c.serve-answer.ensures.also
+    c.new-desk.result.desk.now c.args.desk.now c.serve-answer.new.desk.desk.now c.desk-2-1.given.0 c.new-source.result.source.now
+    c.args.source.now c.serve-answer.new.source.source.now c.source-2-1.given.0 c.new-sink.result.sink.now c.args.sink.now
+    c.serve-answer.new.sink.sink.now c.sink-2-1.given.0 c.new-desk.ensures.desk (sym (desk_left g c)) c.new-source.ensures.source
+    (sym (source_left g c)) c.new-sink.ensures.sink (sym (sink_left g c)) c.serve-answer.ensures.also
