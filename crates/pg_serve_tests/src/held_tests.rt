@@ -238,7 +238,7 @@ impl<'f> Sink for NotingSink<'f> {
 }
 
 /// The connection of pid 8, which cancels.
-fn canceler<R: Wait>(rt: &R, registry: &mut Registry) -> Option<Canceler>
+fn make_canceler<R: Wait>(rt: &R, registry: &mut Registry) -> Option<Canceler>
     ensures manager { registry.new.manager ≡ registry.old.manager }
 {
     let handle = registry.register(rt, 8)?;
@@ -323,7 +323,7 @@ fn is_heard<R: Wait + Copy>(
     moment: Moment,
 ) -> Option<bool> {
     let mut handle = registry.register(&rt, 7)?;
-    let canceler = canceler(&rt, registry)?;
+    let canceler = make_canceler(&rt, registry)?;
     let stage = Stage {
         rt,
         moment,

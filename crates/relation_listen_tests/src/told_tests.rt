@@ -124,7 +124,7 @@ const CONNECTIONS: u64 = 3;
 const TURNS: u64 = 5;
 
 /// Connections wait, with numbers from 1 on.
-fn waiting(alloc: Global) -> Option<Waiting>
+fn make_waiting(alloc: Global) -> Option<Waiting>
     ensures { IfSome result (λ waiting. waiting.accepted ≡ 0) }
 {
     let mut connections = VecDeque::new(alloc);
@@ -147,7 +147,7 @@ fn take_in<R: Wait>(
     count: Option<u64>,
 ) -> Option<(Keeping, u64, bool)> {
     let alloc = registry.alloc;
-    let mut waiting = waiting(alloc)?;
+    let mut waiting = make_waiting(alloc)?;
     let mut keeping = Keeping {
         jobs: Vec::new(alloc),
         started: 0,
