@@ -6,5 +6,5 @@ returns-in-Ok g c =
     let falls = c.verify_input.ensures.never_falls in
     record {
       came = of_verified c.verify_input.result c.in-Ok.relations _ _ c.in-Ok.ensures.ok c.verify_input.ensures.verified;
-      never_falls = (c.read_relations.ensures.never_falls, (falls.0, (falls.1, tt)));
+      never_falls = (c.read_relations.ensures.never_falls, (falls.read_faults, (falls.write_faults, tt)));
     }
