@@ -1,3 +1,4 @@
 mod FewRows
 mod ColumnLemmas
 mod OutcomeLemmas
+mod SinkLemmas

@@ -1,7 +1,7 @@
 -- There is one moment more than steps.
 use Rattle.std.proofs.Common.{◌≡◌, ◌∙◌, ◌+◌, ap, length, arith}
 use Rattle.rota_lines.proofs.LineLemmas.{one_more}
-use Rattle.rota_lines.proofs.WritingLemmas.{never_falls_at}
+use Rattle.rota_report.proofs.SinkLemmas.{never_falls_at}
 use Rattle.rota_report.proofs.comparing.write_comparison.Goals as goal
 
 pub clashes-requires-clause-first_few : goal.clashes-requires-clause-first_few
