@@ -13,6 +13,7 @@ use rota_moments::{Moment, rota};
 use std::alloc::Global;
 
 /// Writes the lines of the clashes of two rotas.
+#[tactic(auto, using(crate::proofs::SinkLemmas::never_falls_at))]
 pub(crate) fn write_comparison<K: Sink>(
     alloc: Global,
     start: Moment,

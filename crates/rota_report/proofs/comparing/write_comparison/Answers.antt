@@ -1,7 +1,6 @@
 -- There is one moment more than steps.
 use Rattle.std.proofs.Common.{◌≡◌, ◌∙◌, ◌+◌, ap, length, arith}
 use Rattle.rota_lines.proofs.LineLemmas.{one_more}
-use Rattle.rota_report.proofs.SinkLemmas.{never_falls_at}
 use Rattle.rota_report.proofs.comparing.write_comparison.Goals as goal
 
 pub clashes-requires-clause-first_few : goal.clashes-requires-clause-first_few
@@ -15,6 +14,3 @@ clashes-requires-clause-second_few g c =
     let same = ap length c.as_slice-2.ensures in
     let more = one_more c.args.others.now c.args.other c.in_ok-second.second c.in_ok-second.ensures.moments in
     omega (arith, same, more, c.requires.others_few)
-
-pub returns-in-Err-clause-never_falls : goal.returns-in-Err-clause-never_falls
-returns-in-Err-clause-never_falls g c = never_falls_at c.in-Err.error _ _ c.in-Err.ensures.written.1
