@@ -1,10 +1,7 @@
-//! Tests of what takes clients in and serves them: over fakes that tell what they give and take, and
-//! on threads.
+//! Tests of what takes clients in and serves them, over fakes that tell what they give and take.
 #![tactic(auto)]
 
 #[cfg(test)]
 mod fakes;
 #[cfg(test)]
 mod listening_tests;
-#[cfg(test)]
-mod threads_tests;
