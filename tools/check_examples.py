@@ -5,7 +5,10 @@ usage: check_examples.py [PAGE..], as: check_examples.py README.md rota_report
 
 In a block of a page that is indented or fenced, a line that begins with `$ ` is a command, and the lines behind it, up to the next
 one or the block's end, are what it prints. `..` alone stands for any lines. A command that ends in ` &` goes on behind it, and is
-ended behind the page; its lines are the first that it prints. Of --help each line under `Examples:` is run, and its status is 0.
+ended behind the page; its lines are the first that it prints. Each line under `Examples:` of --help is run.
+
+What an example of --help prints is compared too: with the lines behind the same command on a page, or else with those of
+tools/help_examples.txt, which are written down by hand from data/rosters.
 
 The commands of a page run in one folder, in which data/, tools/ and the rest of the repository are found, and `client`, the bytes of
 tools/demo_client.hex. The programs' names and `crates/NAME/out/NAME` stand for the programs, proved or not, and ports from 5433
@@ -32,7 +35,7 @@ WANTED = ("psql", "pgbench", "xxd")
 
 
 class Example:
-    """A command, the lines that it prints, and where it stands. Of a program's help no lines are asked."""
+    """A command, the lines that it prints, and where it stands."""
 
     def __init__(self, place, command, lines):
         self.place, self.command, self.lines = place, command, lines
@@ -61,10 +64,11 @@ def blocks(text):
         else:
             yield block
             block = []
+    yield block
 
 
 def examples_of_page(name):
-    """The examples of a page."""
+    """The examples of a page, or of a file as one."""
     found = []
     for block in blocks((TOP / name).read_text()):
         inside = None
@@ -80,12 +84,14 @@ def examples_of_page(name):
     return found
 
 
-def examples_of_help(name, path):
-    """The examples that a program tells of itself."""
+def examples_of_help(name, path, known):
+    """The examples that a program tells of itself, with the lines that are known of their commands."""
     told = subprocess.run([path, "--help"], stdin=subprocess.DEVNULL, capture_output=True, text=True, check=False).stdout
     _, _, behind = told.partition("\nExamples:\n")
-    lines = behind.partition("\n\n")[0].split("\n")
-    return [Example(f"{name} --help", line.strip(), None) for line in lines if line.strip()]
+    commands = [line.strip() for line in behind.partition("\n\n")[0].split("\n") if line.strip()]
+    if unknown := [command for command in commands if command not in known]:
+        sys.exit(f"{name} --help: no page tells what this prints, and tools/help_examples.txt doesn't: {unknown[0]}")
+    return [Example(f"{name} --help", command, known[command]) for command in commands]
 
 
 def free_ports(count):
@@ -127,7 +133,7 @@ class Page:
         child = subprocess.Popen(words, cwd=self.folder, env=self.environment, stdin=subprocess.DEVNULL, stdout=out, stderr=out,
                                  start_new_session=True)
         self.running.append(child)
-        wanted = max(1, len(example.lines or []))
+        wanted = max(1, len(example.lines))
         end = time.monotonic() + SECONDS
         while child.poll() is None and time.monotonic() < end:
             if example.goes_on() and os.pread(out.fileno(), 1 << 20, 0).count(b"\n") >= wanted:
@@ -160,9 +166,9 @@ def tried(page, example):
     lines, status = page.run(example)
     if status is None:
         print(f"{example.place}: {example.command}\n  didn't end within {SECONDS} seconds")
-    elif example.lines is None and status != 0:
+    elif example.place.endswith("--help") and status != 0:
         print(f"{example.place}: {example.command}\n  status {status}: {' '.join(lines[:3])}")
-    elif example.lines is not None and not are_as(lines[:len(example.lines)] if example.goes_on() else lines, example.lines):
+    elif not are_as(lines[:len(example.lines)] if example.goes_on() else lines, example.lines):
         print(f"{example.place}: {example.command}\n  printed:\n" + "\n".join(f"    {line}" for line in lines[:40]))
     else:
         return True
@@ -172,7 +178,9 @@ def tried(page, example):
 def main():
     paths = {crate: program(crate) for crate in PROGRAMS}
     pages = {name: examples_of_page(name) for name in ["README.md", *sorted(str(p.relative_to(TOP)) for p in TOP.glob("docs/*.md"))]}
-    pages |= {name: examples_of_help(name, paths[crate]) for crate, name in PROGRAMS.items()}
+    told = [*examples_of_page("tools/help_examples.txt"), *(one for examples in pages.values() for one in reversed(examples))]
+    known = {one.command: one.lines for one in told}
+    pages |= {name: examples_of_help(name, paths[crate], known) for crate, name in PROGRAMS.items()}
     unknown = [name for name in sys.argv[1:] if name not in pages]
     if unknown:
         sys.exit(f"there is no page {unknown[0]}: a page is README.md, docs/NAME.md or a program's name")

@@ -91,11 +91,22 @@ UNKNOWN = of_steps([START, query("nosuch", [error("42P01", 'relation "nosuch" do
 
 
 def row(name, words, given, answer, file=TABLE, file_fails="-", fails="-", write_fails="-"):
-    print("|".join((name, "replay", words, file, file_fails, digits(given).strip(), fails, write_fails, answer)))
+    shown = given if isinstance(given, str) else digits(given).strip()
+    print("|".join((name, "replay", words, file, file_fails, shown, fails, write_fails, answer)))
 
 
 def written_out(data):
-    return " out hex " + data.hex()
+    return " out hex " + data.hex() if len(data) <= 10_000 else f" out {len(data)} bytes of sum {sum(data)}"
+
+
+def squeezed(data, parts):
+    """Digits of these bytes, in which a part that stands so often behind itself is written once. The parts stand in their order."""
+    words = []
+    for count, part in parts:
+        front, found, data = data.partition(count * part)
+        assert found
+        words += [front.hex(), f"{count}*{part.hex()}"]
+    return " ".join([*words, data.hex()])
 
 
 def record(name, s, **others):
@@ -198,6 +209,34 @@ def faults():
         row(command + ": the file is judged before the input", words, whole, "9 err file fault\\n", file_fails="0", fails="0")
 
 
+def counted():
+    """Calls that are one more than there are: of an input that is read by 65,536 bytes, up to a read that gives none, and of a
+    recording and a verdict, which are one write."""
+    for size, reads in ((65_536, 2), (65_537, 3)):
+        given = f"{size}*00"
+        row(f"verify: an input of {size} bytes in {reads} reads", VERIFY, given, BAD, fails=str(reads))
+        row(f"verify: an input of {size} bytes whose last read fails", VERIFY, given, "4 err read fault\\n", fails=str(reads - 1))
+    record("a recording in one write", FIRST, write_fails="1:0")
+    verify("a verdict in one write", FIRST, write_fails="1:0")
+    verify("another verdict in one write", FIRST.but(calls=[]), "calls 0", write_fails="1:0")
+
+
+def long_session():
+    """A client of more than 8,192 bytes, replies and a recording of more than 65,536."""
+    often, (asked, replies, calls) = 800, query("shifts", SHIFTS)
+    s = of_steps([START, *often * [(asked, replies, calls)], TERMINATE])
+    assert len(s.client) > 8_192 and len(s.replies) > 65_536
+    told = written(replies)
+    row("record: a long session", RECORD, squeezed(s.client, [(often, asked)]), "0" + written_out(s.recording()))
+    for name, changed_session, verdict in (
+        ("a long session", s, "same"),
+        ("a long session, its last reply byte changed", s.but(replies=changed(s.replies, len(s.replies) - 1)), f"replies {len(s.replies) - 1}"),
+    ):
+        rest = often - 1
+        given = squeezed(changed_session.recording(), [(rest, asked), (rest, b"\0"), (rest, told)])
+        row("verify: " + name, VERIFY, given, f"{0 if verdict == 'same' else 20} out {verdict}\\n")
+
+
 def bad_words():
     for words in ("-", "record", "verify", "verify f g", "record f 7", "record f 7 01020304 5", "Record f 7 01020304", "VERIFY f", "records f 7 01020304",
                   "verify f 7 01020304", "record f", "serve f 7 01020304", "record f 0 01020304", "record f 2147483648 01020304", "record f -1 01020304",
@@ -218,4 +257,6 @@ def print_rows():
     verdicts()
     unread()
     faults()
+    counted()
+    long_session()
     bad_words()

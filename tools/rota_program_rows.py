@@ -36,9 +36,51 @@ def compared(start, steps, other, others):
     return "0 out " + text if text else "0"
 
 
+def written(pieces):
+    """What is told of so many bytes."""
+    text = "".join(pieces).replace("\\t", "\t").replace("\\n", "\n").encode()
+    return "%d bytes of sum %d" % (len(text), sum(text)) if len(text) > 10_000 else "".join(pieces)
+
+
+def writes_of(text):
+    """The pieces that a text is written in: it is sent whenever 65,536 bytes or more wait behind a line, and at its end."""
+    pieces, waits = [], ""
+    for line in text.replace("\\n", "\\n\0").split("\0"):
+        if len(waits) - waits.count("\\") >= 65_536:
+            pieces, waits = pieces + [waits], ""
+        waits += line
+    return pieces + [waits]
+
+
+def counted():
+    """Reports and clashes of one write, and of several, of which one that fails is made, or is one more than there are. And files
+    of one read and of two, before that of the end."""
+    small = "lines f shifts span %s postgres" % START
+    yield "a report in one write", small, TABLE, "-", "1:0", shifts_in("postgres")
+    twice = "clashes f shifts span %s shifts span %s" % (START, START)
+    steps = [SHIFTS[0], SHIFTS[1], SHIFTS[2]]
+    yield "clashes in one write", twice, TABLE, "-", "1:0", compared(START, steps, START, steps)
+    # 5,000 days; and 100 days back and forth, each of which clashes with each
+    days, back = [(0, 1, 0)] * 5_000, [(0, 1, 0), (0, -1, 0)] * 100
+    for name, words, file, text in (
+        ("a long report", "lines f r a %s postgres" % START, "r\\t0\\ta\\n*5000 1 day\\n", told(START, days)),
+        ("many clashes", "clashes f r a %s r a %s" % (START, START), "r\\t0\\ta\\n*100 1 day\\n-1 days\\n", compared(START, back, START, back)),
+    ):
+        pieces = writes_of(text.removeprefix("0 out "))
+        assert len(pieces) > 1
+        yield "%s in %d writes" % (name, len(pieces)), words, file, "-", "%d:0" % len(pieces), "0 out " + written(pieces)
+        for number in range(1, len(pieces)):
+            yield "%s whose write %d fails" % (name, number), words, file, "-", "%d:0" % number, \
+                "5 out %s err write fault\\n" % written(pieces[:number])
+    for size, reads in ((65_536, 2), (65_537, 3)):
+        file = "r\\t0\\ta\\n1 day\\n*%d \\n" % (size - len("r 0 a\n1 day\n"))
+        order = "lines f r a %s postgres" % START
+        yield "a file of %d bytes in %d reads" % (size, reads), order, file, str(reads), "-", told(START, [(0, 1, 0)])
+        yield "a file of %d bytes whose last read fails" % size, order, file, str(reads - 1), "-", "9 err file fault\\n"
+
+
 def rows():
-    """Of each row its name, the words, the relation file, the read of it that fails, after how many bytes the first write fails,
-    and the answer."""
+    """Of each row its name, the words, the relation file, the read of it that fails, the write that fails, and the answer."""
     order = "lines f shifts span %s " % START
     for name, style in (("rota of shifts", "postgres"), ("rota of shifts, verbose", "postgres_verbose"), ("rota of shifts, ISO", "iso_8601"),
                         ("rota of shifts, SQL", "sql_standard")):
@@ -113,5 +155,5 @@ def rows():
 
 def print_rows():
     assert DAY == 86_400_000_000
-    for name, words, file, file_fails, write_fails, answer in rows():
+    for name, words, file, file_fails, write_fails, answer in [*rows(), *counted()]:
         print("|".join((name, "rota", words, file, file_fails, "", "-", write_fails, answer)))

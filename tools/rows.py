@@ -12,11 +12,14 @@ import sys
 TOP = pathlib.Path(__file__).resolve().parent.parent
 # A crate, its file, the tool that makes it with its words, what the tool reads, and how both are compared.
 MADE = [
+    ("call_rows", "stdin", "call_rows.py", None, "whole"),
     ("command_rows", "stdin", "command_rows.py", None, "whole"),
     ("conversation_rows", "stdin", "chunk_rows.py", None, "blocks"),
+    ("counter_rows", "stdin", "counter_rows.py", None, "whole"),
     ("cursor_sample_rows", "stdin", "cursor_serving_rows.py sample", None, "whole"),
     ("cursor_serving_rows", "stdin", "cursor_serving_rows.py", None, "whole"),
     ("message_rows", "stdout", "message_rows.py", "stdin", "whole"),
+    ("recording_rows", "stdin", "recording_rows.py", None, "whole"),
     ("relation_rows", "stdin", "demo_load.py rows", "stdin", "loads"),
     ("server", "stdout", "demo_lines.py 0 1", None, "whole"),
     ("styles_server", "stdin", "styles_rows.py client", None, "whole"),

@@ -8,6 +8,9 @@ use row_files::{Fault, next_part, push_digits, push_shown};
 use std::alloc::{AllocError, Global};
 use std::fmt::Write;
 
+/// A text of more bytes than these is told by their number and their sum.
+const LONG: usize = 10_000;
+
 /// What a row gives its program, as it stands in the row.
 #[derive(Clone, Copy)]
 struct Given<'t> {
@@ -89,13 +92,16 @@ fn told(
     Ok(answer)
 }
 
-/// Puts bytes behind a label, where there are any: in hexadecimal digits where a zero byte is among
-/// them, else as text.
+/// Puts bytes behind a label, where there are any: many by their number and their sum; in
+/// hexadecimal digits where a zero byte is among them; else as text.
 fn put_written(text: &mut String, label: &str, bytes: &[u8]) -> Result<(), AllocError> {
     if bytes.is_empty() {
         return Ok(());
     }
     text.push_str(label)?;
+    if bytes.len() > LONG {
+        return put_sum(text, bytes);
+    }
     if bytes.contains(&0) {
         text.push_str("hex ")?;
         return push_digits(text, bytes);
@@ -104,4 +110,14 @@ fn put_written(text: &mut String, label: &str, bytes: &[u8]) -> Result<(), Alloc
         push_shown(text, char::from(*byte))?;
     }
     Ok(())
+}
+
+/// Puts how many bytes there are, and their sum.
+fn put_sum(text: &mut String, bytes: &[u8]) -> Result<(), AllocError> {
+    let len = bytes.len();
+    let mut sum = 0u64;
+    for byte in bytes {
+        sum = sum.saturating_add(u64::from(*byte));
+    }
+    write!(text, "{len} bytes of sum {sum}")
 }

@@ -26,8 +26,8 @@ fn word_of(alloc: Global, text: &str) -> Result<PgStr, AllocError> {
     PgStr::copy_of(alloc, word.as_str())
 }
 
-/// A file of this text, whose read of the number `fails` fails, unless that is `-`. `*N TEXT` is the
-/// text N times.
+/// A file of this text, whose read of the number `fails` fails, unless that is `-`. `HEAD*N TEXT` is
+/// HEAD, and then TEXT N times.
 pub fn file_of<'t>(
     alloc: Global,
     text: &'t str,
@@ -57,24 +57,27 @@ fn source_of<'t>(alloc: Global, bytes: Vec<u8>, fails: &'t str) -> Result<Memory
     Ok(MemorySource::new(PgBytes::from_vec(bytes), PgList::new(alloc), failures))
 }
 
-/// The bytes of a text, or those of `*N TEXT`.
+/// The bytes of a text, or those of `HEAD*N TEXT`.
 fn bytes_of<'t>(alloc: Global, text: &'t str) -> Result<Vec<u8>, Fault<'t>> {
     let mut bytes = Vec::new(alloc);
-    match text.strip_prefix("*") {
+    match text.split_once("*") {
         None => push_repeated(alloc, &mut bytes, 1, text)?,
-        Some(repeated) => {
-            let (times, text) = repeated.split_once(" ").ok_or(Fault::Line(text))?;
-            push_repeated(alloc, &mut bytes, parsed(times)?, text)?;
+        Some((head, repeated)) => {
+            let (times, tail) = repeated.split_once(" ").ok_or(Fault::Line(text))?;
+            push_repeated(alloc, &mut bytes, 1, head)?;
+            push_repeated(alloc, &mut bytes, parsed(times)?, tail)?;
         }
     }
     Ok(bytes)
 }
 
-/// A sink whose first write fails after `fails` bytes, unless that is `-`.
+/// A sink whose write of the number N, from 0, fails after K bytes, where `fails` is `N:K`. It is
+/// the first write where `fails` is `K`, and none where it is `-`.
 pub fn sink_of<'t>(alloc: Global, fails: &'t str) -> Result<MemorySink, Fault<'t>> {
     let mut failures = PgList::new(alloc);
     if fails != "-" {
-        failures.push((0, parsed(fails)?))?;
+        let (number, bytes) = fails.split_once(":").unwrap_or(("0", fails));
+        failures.push((parsed(number)?, parsed(bytes)?))?;
     }
     Ok(MemorySink::new(alloc, failures))
 }

@@ -1,5 +1,5 @@
-//! Rows of the programs rota_report and pg_replay, as data on standard input. Each row runs its
-//! program over memory, and a line tells whether the program ends as the row expects. The head of
+//! Rows of the programs rota_report, pg_replay and pg_cursor, as data on standard input. Each row runs
+//! its program over memory, and a line tells whether the program ends as the row expects. The head of
 //! `stdin` has the format.
 #![tactic(auto)]
 

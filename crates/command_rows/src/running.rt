@@ -1,5 +1,6 @@
 //! The programs that rows run.
 
+use pg_cursor::run_cursors;
 use pg_messages::PgStr;
 use pg_replay::run_replay;
 use pg_streams::{MemorySink, MemorySource};
@@ -14,6 +15,8 @@ pub enum Program {
     Rota,
     /// pg_replay, which reads an input too.
     Replay,
+    /// pg_cursor, which reads an input too.
+    Cursor,
 }
 
 /// The program of this name.
@@ -21,6 +24,7 @@ pub fn program_of<'t>(name: &'t str) -> Result<Program, Fault<'t>> {
     match name {
         "rota" => Ok(Program::Rota),
         "replay" => Ok(Program::Replay),
+        "cursor" => Ok(Program::Cursor),
         _ => Err(Fault::Line(name)),
     }
 }
@@ -39,6 +43,7 @@ impl Program {
         match self {
             Program::Rota => run_rota(alloc, words, file, out, err),
             Program::Replay => run_replay(alloc, words, file, input, out, err),
+            Program::Cursor => run_cursors(alloc, words, file, input, out, err),
         }
     }
 }

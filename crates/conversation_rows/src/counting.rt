@@ -8,6 +8,7 @@ use pg_session::{Sink, SinkError};
 pub struct CountingSink {
     pub sink: MemorySink,
     pub lengths: Vec<usize>,
+    pub refused: u64,
 }
 
 impl Sink for CountingSink {
@@ -15,10 +16,18 @@ impl Sink for CountingSink {
 
     ghost faults = { λ s. s.sink.faults };
 
+    ghost refused = { λ s. s.refused };
+
+    ghost sent = { λ s. s.sink.sent };
+
     fn send(&mut self, bytes: &[u8]) -> Result<(), SinkError> {
-        if self.lengths.push(bytes.len()).is_err() {
-            return Err(SinkError::NoMemory);
+        let answer = match self.lengths.push(bytes.len()) {
+            Ok(()) => self.sink.send(bytes),
+            Err(_) => Err(SinkError::NoMemory),
+        };
+        if answer.is_err() {
+            self.refused = self.refused.saturating_add(1);
         }
-        self.sink.send(bytes)
+        answer
     }
 }

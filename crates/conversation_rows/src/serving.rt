@@ -84,6 +84,7 @@ fn sink_of(alloc: Global, fails: Option<(u64, usize)>) -> Result<CountingSink, A
     Ok(CountingSink {
         sink: MemorySink::new(alloc, fails),
         lengths: Vec::new(alloc),
+        refused: 0,
     })
 }
 

@@ -40,7 +40,7 @@ pub Flows-sent : (w v : Option (List ℕ)) (o q : List ℕ) → GrowsBy w v o �
 Flows-sent w v o q g e = record { sent = o; grown = g; same = ap (λ l. o ++ l) e }
 
 -- a front of a front
-front_of_more : (a b f : List ℕ) → BeginsWith a f → BeginsWith (a ++ b) f
+pub front_of_more : (a b f : List ℕ) → BeginsWith a f → BeginsWith (a ++ b) f
 front_of_more a b f h = (h.0 ++ b, ap (λ l. l ++ b) h.1 ∙ append_assoc f h.0 b)
 
 -- bytes flowed, and the sending of those that waited was cut off

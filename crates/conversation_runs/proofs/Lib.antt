@@ -14,6 +14,7 @@ pub mod ReplyBytes
 pub mod Responses
 pub mod Rounds
 pub mod Rows
+pub mod SentFirst
 pub mod Spending
 pub mod StartupTurns
 pub mod Stepped

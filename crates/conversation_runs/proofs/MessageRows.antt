@@ -14,7 +14,6 @@ use Rattle.pg_results.specs.Rows.{IsAnswerable}
 use Rattle.pg_results.specs.declared.client.PgWireConnectionState.TheVariants as phase
 use Rattle.pg_results.specs.declared.error.PgWireError.{PgWireError}
 use Rattle.pg_results.specs.declared.error.PgWireError.TheVariants as wire
-use Rattle.pg_client.specs.declared.desk.DeskCall.{DeskCall}
 use Rattle.pg_client.specs.declared.ends.EndKind.{EndKind}
 use Rattle.pg_client.specs.declared.ends.EndKind.TheVariants as end
 use Rattle.pg_client.specs.declared.ends.SessionError.{SessionError}

@@ -46,7 +46,7 @@ silently_fed turns calls (Err serve.ReadFault) only = cc
 silently_fed turns calls (Err serve.WriteFault) only = cc
 
 -- no turn limit is met, and memory alone is wanting
-never_stopped : {A : Type 0} (result : Result A ServeError) → IfErr result (λ e. e ≡ serve.NoMemory) → IsErrOf result serve.TurnLimit → ⊥
+pub never_stopped : {A : Type 0} (result : Result A ServeError) → IfErr result (λ e. e ≡ serve.NoMemory) → IsErrOf result serve.TurnLimit → ⊥
 never_stopped (Ok x) only limit = cc
 never_stopped (Err e) only limit = cc
 

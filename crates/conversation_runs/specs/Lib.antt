@@ -5,3 +5,4 @@ pub mod Steps
 pub mod Streams
 pub mod Causes
 pub mod Ready
+pub mod SentFirst

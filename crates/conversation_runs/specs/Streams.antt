@@ -20,6 +20,16 @@ abbrev pub reads_after : {E : Type 0} → Result ℕ E → ℕ → ℕ
 reads_after (Ok n) reads = if n == 0 then reads else min (reads + 1) greatest_count
 reads_after (Err e) reads = reads
 
+-- the number of sends that were refused, after a send
+abbrev pub refused_after : {E : Type 0} → Result (Unit {0}) E → ℕ → ℕ
+refused_after (Ok done) refused = refused
+refused_after (Err e) refused = min (refused + 1) greatest_count
+
+-- the number of bytes of the sends that were answered with Ok, after a send of so many bytes
+abbrev pub sent_after : {E : Type 0} → Result (Unit {0}) E → ℕ → ℕ → ℕ
+sent_after (Ok done) n sent = min (sent + n) greatest_count
+sent_after (Err e) n sent = sent
+
 -- A read gave the first n bytes of those to come; none is given only where none is left.
 pub record GivesFront (n : ℕ) (into bytes : List ℕ) (left : Option (List ℕ)) : Type 0 where
   pub within : n ≤ length bytes

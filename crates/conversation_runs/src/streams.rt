@@ -1,7 +1,7 @@
 //! What is outside: where a client's bytes come from, and where the replies go.
 
 ghost use Rattle.std.specs.Prelude.{◌≡◌, ℕ, List, [], Option, ◌≤◌, ◌<◌, length, IfOk, IfSome, OnOk, OnErr, IsErrOf};
-ghost use Rattle.conversation_runs.specs.Streams.{GivesFront, GrowsBy, GrowsByFront, HasRisen, reads_after};
+ghost use Rattle.conversation_runs.specs.Streams.{GivesFront, GrowsBy, GrowsByFront, HasRisen, reads_after, refused_after, sent_after};
 
 /// A read failed.
 #[derive(Clone, Copy, Debug, PartialEq, Eq)]
@@ -50,15 +50,24 @@ pub trait Sink {
     ghost written: { Self → Option (List ℕ) };
     // the number of writes that failed
     ghost faults: { Self → ℕ };
+    // the number of sends that were refused, for whatever reason
+    ghost refused: { Self → ℕ };
+    // the number of bytes of the other sends
+    ghost sent: { Self → ℕ };
     // numbers that identify what it was made over, so that the lender can check that it is still
     // the same
     ghost origin: { Self → List ℕ } = { λ _. [] };
 
     /// Writes all bytes. Failed comes only where the count of faults rose; Ok and NoMemory leave it
     /// as it was. After an error a front of the bytes was written.
+    ///
+    /// Each error counts as one more send that was refused. At Ok the count of the bytes that were
+    /// sent rises by their number. Both counts saturate at the greatest `u64`.
     fn send(&mut self, bytes: &[u8]) -> Result<(), SinkError>
         ensures ok { OnOk result (GrowsBy (written self.old) (written self.new) bytes.now) }
         ensures err { OnErr result (GrowsByFront (written self.old) (written self.new) bytes.now) }
+        ensures refused { refused self.new ≡ refused_after result (refused self.old) }
+        ensures sent { sent self.new ≡ sent_after result (length bytes.now) (sent self.old) }
         ensures failed { IsErrOf result SinkError.Failed
             → HasRisen (faults self.old) (faults self.new) }
         ensures no_memory { IsErrOf result SinkError.NoMemory → faults self.new ≡ faults self.old }

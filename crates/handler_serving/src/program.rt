@@ -92,7 +92,11 @@ fn serve_standard<R: Input + AllocGlobal + Eprint, H: PgWireServerHandlers, W: W
         reads: 0,
         faults: 0,
     };
-    let mut sink = WriterSink { writer, faults: 0 };
+    let mut sink = WriterSink {
+        writer,
+        faults: 0,
+        sent: 0,
+    };
     let answer = serve_client(rt.alloc(), handlers, pid, key, &mut source, &mut sink);
     tell_served(rt, &answer)
 }

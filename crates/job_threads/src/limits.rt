@@ -16,3 +16,7 @@ pub(crate) const TRIES: u64 = 5;
 /// jobs one after another take the same thread. It is less than the pause, so that such a thread
 /// has ended before one that couldn't be made is tried again.
 pub(crate) const IDLE: u64 = 50;
+
+/// How many threads wait so at most. So clients that come and go at once, on a machine of some
+/// processors, mostly find a thread; and an idle service keeps none for long.
+pub(crate) const MOST_IDLE: usize = 8;

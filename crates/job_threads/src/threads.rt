@@ -1,27 +1,27 @@
 //! Jobs that run on threads of their own.
 
-ghost use Rattle.std.specs.Prelude.{◌≡◌, ◌≢◌, true, false, IfSome, IfNone};
+ghost use Rattle.std.specs.Prelude.{◌≡◌, ◌≤◌, ◌+◌, ◌++◌, ◌∷◌, [], true, false, None, length, option_to_list, IfSome, IfNone};
+ghost use Rattle.std.proofs.Props.{props};
 ghost use Rattle.job_threads.specs.declared.job.Ended.{Ended};
-ghost use Rattle.job_threads.specs.Waiting.{job_given};
 
 use crate::job::{Ended, ThreadJob};
-use crate::limits::{IDLE, PAUSE, STACK, TRIES};
+use crate::limits::{IDLE, MOST_IDLE, PAUSE, STACK, TRIES};
 use std::alloc::{AllocError, Global};
-use std::mem;
 use std::snapshot::Snapshot;
 use std::sync::{Arc, Condvar, CondvarTimeouts, Mutex, Wait};
 use std::thread::{Builder, Promise, Threads};
 use std::time::{Clock, Duration};
 
-/// Who waits for a job. So a job lies here only for a thread that waits.
+/// The threads whose jobs have ended, and that wait for another one. A job lies here only for one
+/// of them.
 #[derive(Drop)]
-enum Waiting<J> {
-    /// No thread does.
-    Nobody,
-    /// A thread with a stack of so many bytes does.
-    Idle(usize),
-    /// A thread did, and was given this job.
-    Given(J),
+struct Waiting<J> {
+    threads: usize,
+    /// The bytes of the stack that each of them has.
+    stack: usize,
+    /// The jobs that were given to some of them.
+    given: Vec<J>,
+    ghost served: { length given.items ≤ threads } by { Prim.hlevel props },
 }
 
 /// How many jobs run, and how many have ended, wrapping; and who waits for a job.
@@ -32,55 +32,49 @@ struct Count<J> {
     waiting: Waiting<J>,
 }
 
-impl<J: Drop> Count<J> {
-    /// Gives a job to the thread that waits for one, if one does that has so large a stack. Else it
+impl<J: Drop> Waiting<J> {
+    /// Gives a job to a thread that waits for one, if one does that has so large a stack. Else it
     /// hands the job back.
     fn give(&mut self, stack: usize, job: J) -> Option<J>
-        ensures given { IfNone result ((self.old.waiting ≡ Waiting.Idle stack)
-            × (self.new.waiting ≡ Waiting.Given job)) }
-        ensures back { IfSome result (λ back. (back ≡ job) × (self.new ≡ self.old)
-            × (self.old.waiting ≢ Waiting.Idle stack)) }
+        ensures given { IfNone result ((self.old.stack ≡ stack)
+            × (self.new.given.items ≡ self.old.given.items ++ job ∷ [])) }
+        ensures back { IfSome result (λ back. (back ≡ job)
+            × (self.new.given.items ≡ self.old.given.items)) }
+        ensures threads { self.new.threads ≡ self.old.threads }
     {
-        match self.waiting {
-            Waiting::Idle(size) if size == stack => {}
-            _ => return Some(job),
+        if self.stack != stack || self.given.len() >= self.threads {
+            return Some(job);
         }
-        self.waiting = Waiting::Given(job);
-        self.running = self.running.saturating_add(1);
-        None
-    }
-
-    /// Whether the thread that waits was given a job.
-    fn is_given(&self) -> bool {
-        matches!(self.waiting, Waiting::Given(_))
-    }
-
-    /// The thread that waited goes on: with the job that it was given, or without one.
-    fn go_on(&mut self) -> Option<J>
-        ensures taken { result ≡ job_given self.old.waiting }
-        ensures none { self.new.waiting ≡ Waiting.Nobody }
-    {
-        match mem::replace(&mut self.waiting, Waiting::Nobody) {
-            Waiting::Given(job) => Some(job),
-            _ => None,
+        match self.given.push(job) {
+            Ok(()) => None,
+            Err(refused) => Some(refused.value),
         }
     }
 
-    /// A job has ended, and its thread waits for another one, where no other thread does. It answers
-    /// whether it is to wait.
-    fn end(&mut self, stack: usize) -> bool
-        ensures waits { result ≡ true → (self.old.waiting ≡ Waiting.Nobody)
-            × (self.new.waiting ≡ Waiting.Idle stack) }
-        ensures goes { result ≡ false → (self.old.waiting ≢ Waiting.Nobody)
-            × (self.new.waiting ≡ self.old.waiting) }
+    /// One more thread waits, which has so large a stack, where fewer wait than may and where none
+    /// waits that has another stack. It answers whether it is to wait.
+    fn join(&mut self, stack: usize) -> bool
+        ensures waits { result ≡ true → (self.new.threads ≡ self.old.threads + 1)
+            × (self.new.stack ≡ stack) }
+        ensures goes { result ≡ false → self.new.threads ≡ self.old.threads }
+        ensures given { self.new.given.items ≡ self.old.given.items }
     {
-        self.running = self.running.saturating_sub(1);
-        self.ended = self.ended.wrapping_add(1);
-        if !matches!(self.waiting, Waiting::Nobody) {
+        if self.threads >= MOST_IDLE || (self.threads > 0 && self.stack != stack) {
             return false;
         }
-        self.waiting = Waiting::Idle(stack);
+        self.threads += 1;
+        self.stack = stack;
         true
+    }
+
+    /// A thread that waited goes on: with a job that was given, or without one where none is left.
+    fn go_on(&mut self) -> Option<J>
+        ensures taken { self.old.given.items ≡ self.new.given.items ++ option_to_list result }
+        ensures none { result ≡ None → self.old.given.items ≡ [] }
+    {
+        let job = self.given.pop();
+        self.threads = self.threads.saturating_sub(1);
+        job
     }
 }
 
@@ -100,33 +94,35 @@ impl<J: Drop> Running<J> {
         jobs.ended
     }
 
-    /// Gives a job to the thread that waits for one, if one does that has so large a stack.
+    /// Gives a job to a thread that waits for one, if one does that has so large a stack.
     fn give<R: Wait>(&self, rt: &R, stack: usize, job: J) -> Option<J>
         ensures { IfSome result (λ back. back ≡ job) }
     {
         let mut jobs = self.jobs.lock(rt);
-        let back = jobs.give(stack, job);
+        let back = jobs.waiting.give(stack, job);
         if back.is_none() {
-            self.given.notify_all();
+            jobs.running = jobs.running.saturating_add(1);
+            self.given.notify_one();
         }
         back
     }
 
-    /// A job has ended. It answers the next one of its thread, which waits a while for it where no
-    /// other thread does.
+    /// A job has ended. It answers the next one of its thread, which waits a while for it where few
+    /// other threads do.
     fn leave<R: Wait + Clock>(&self, rt: &R, stack: usize) -> Option<J> {
         let mut jobs = self.jobs.lock(rt);
-        let waits = jobs.end(stack);
+        jobs.running = jobs.running.saturating_sub(1);
+        jobs.ended = jobs.ended.wrapping_add(1);
         self.changed.notify_all();
-        if !waits {
+        if !jobs.waiting.join(stack) {
             return None;
         }
         let (mut jobs, _timed_out) = self
             .given
             .wait_timeout_while(rt, jobs, Duration::from_millis(IDLE), |jobs| {
-                !jobs.is_given()
+                jobs.waiting.given.is_empty()
             });
-        jobs.go_on()
+        jobs.waiting.go_on()
     }
 
     /// A job didn't come to run.
@@ -176,7 +172,11 @@ impl<J: Drop> JobThreads<J> {
         let count = Count {
             running: 0,
             ended: 0,
-            waiting: Waiting::Nobody,
+            waiting: Waiting {
+                threads: 0,
+                stack: STACK,
+                given: Vec::with_capacity(alloc, MOST_IDLE)?,
+            },
         };
         let jobs = Mutex::new(count);
         let changed = Condvar::new();
@@ -226,8 +226,8 @@ impl<J: ThreadJob + Send + 'static> JobThreads<J> {
     /// fails. The answer tells how many tries failed, and whether the job was dropped.
     ///
     /// A job that has ended leaves nothing behind: what it had is dropped on its thread. That waits
-    /// 50 milliseconds for another job with the same stack, where no other thread waits so, and then
-    /// ends. Nobody joins it.
+    /// 50 milliseconds for another job with the same stack, where fewer than eight threads wait so,
+    /// and then ends. Nobody joins it.
     pub fn start<R: Threads + Wait + Clock + Copy + Send + 'static>(&self, rt: R, job: J) -> Tries {
         let Some(job) = self.running.give(&rt, self.stack, job) else {
             return Tries {

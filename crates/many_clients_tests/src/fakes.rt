@@ -9,11 +9,20 @@ use pg_streams::{AcceptFailed, Acceptor, Job, KeySource, SpawnFailed, Spawner};
 use std::alloc::{AllocError, Global};
 use std::collections::VecDeque;
 
-/// An end of a connection whose client sends nothing. It has the connection's number.
+/// An end of a connection whose client sends nothing. It has the connection's number, and counts the
+/// bytes that it is sent.
 #[derive(Drop)]
 pub(crate) struct Silence {
     /// The number.
     pub(crate) number: u64,
+    sent: u64,
+}
+
+impl Silence {
+    /// An end of the connection of this number.
+    pub(crate) fn new(number: u64) -> Silence {
+        Silence { number, sent: 0 }
+    }
 }
 
 impl Source for Silence {
@@ -37,7 +46,12 @@ impl Sink for Silence {
 
     ghost faults = { λ _. 0 };
 
-    fn send(&mut self, _bytes: &[u8]) -> Result<(), SinkError> {
+    ghost refused = { λ _. 0 };
+
+    ghost sent = { λ s. s.sent };
+
+    fn send(&mut self, bytes: &[u8]) -> Result<(), SinkError> {
+        self.sent = self.sent.saturating_add(bytes.len() as u64);
         Ok(())
     }
 }

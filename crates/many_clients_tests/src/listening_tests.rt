@@ -23,7 +23,7 @@ fn three_waiting(alloc: Global) -> Option<Waiting>
 {
     let mut connections = VecDeque::new(alloc);
     for number in 1..4u64 {
-        let connection = (Silence { number }, Silence { number });
+        let connection = (Silence::new(number), Silence::new(number));
         connections.push_back(connection).ok()?;
     }
     Some(Waiting::new(connections))

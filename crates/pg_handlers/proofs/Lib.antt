@@ -1,1 +1,3 @@
 pub mod Answers
+mod Waiting
+mod Beginning

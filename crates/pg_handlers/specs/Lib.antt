@@ -1,3 +1,4 @@
 pub mod Polling
 pub mod Sending
 pub mod PolledQueries
+pub mod Beginning

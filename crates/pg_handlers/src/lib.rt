@@ -22,6 +22,6 @@ pub use pg_replies::{
     send_ready_for_query,
 };
 pub use polled::PolledQuery;
-pub use query::extended::ExtendedQueryHandler;
-pub use query::simple::SimpleQueryHandler;
-pub use query::{QueryState, Turn};
+pub use query::extended::{ExtendedQueryHandler, finish_execute};
+pub use query::simple::{SimpleQueryHandler, finish_query};
+pub use query::{Begun, QueryState, Turn};

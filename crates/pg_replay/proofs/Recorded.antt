@@ -16,6 +16,7 @@ use Rattle.relation_serving.specs.Completeness.{IsComplete}
 use Rattle.relation_serving.specs.Serving.{WentByTables}
 use Rattle.relation_tables.specs.declared.Relation.{Relation}
 use Rattle.session_recording.specs.declared.error.RecordError.{RecordError}
+use Rattle.session_recording.specs.Kept.{counted}
 use Rattle.session_recording.specs.Recorded.{IsFaithful, IsRecorded, Passage}
 use Rattle.session_replay.proofs.Judging.{one_script}
 use Rattle.pg_replay.specs.Program.{WasRecorded, room, turns}
@@ -70,24 +71,34 @@ module _ (reads new_reads faults new_faults writes new_writes : ℕ) where
 
 -- ---- what was recorded
 
-abbrev passing : Option (List ℕ) → Option (List ℕ) → List ℕ → List ℕ → Passage
-passing left new_left began sent = record { left = left; new_left = new_left; written = Some began; new_written = Some sent }
+abbrev passing : Option (List ℕ) → Option (List ℕ) → List ℕ → List ℕ → ℕ → Passage
+passing left new_left began sent refused = record {
+  left = left;
+  new_left = new_left;
+  written = Some began;
+  new_written = Some sent;
+  refused = 0;
+  new_refused = refused;
+  sent = counted (length began);
+  new_sent = counted (length sent);
+}
 
 -- the words of the program say what its registry, its sink and its calls are
 pub was_recorded : (registration : ℤ × List ℕ) (pid : ℤ) (key : List ℕ) (relations : List Relation) (answer : Result EndKind ServeError)
-    (recorded : Result Recording RecordError) (left new_left : Option (List ℕ)) (began sent : List ℕ) (calls went_calls told_calls : List DeskCall)
-    (reads new_reads faults new_faults writes new_writes : ℕ) → registration ≡ (pid, key) → began ≡ [] → went_calls ≡ calls → told_calls ≡ calls
+    (recorded : Result Recording RecordError) (left new_left : Option (List ℕ)) (began sent : List ℕ) (refused : ℕ)
+    (calls went_calls told_calls : List DeskCall) (reads new_reads faults new_faults writes new_writes : ℕ) → registration ≡ (pid, key) → began ≡ [] → went_calls ≡ calls → told_calls ≡ calls
     → AllByRecursion (λ yes. yes ≡ false) (answers_of calls)
     → WentByTables relations registration answer left new_left (Some began) (Some sent) went_calls
     → HasCause answer turns (questions went_calls) (in_memory reads faults 0) (in_memory new_reads new_faults 0)
     → IsComplete relations turns answer left (in_memory reads faults 0) (in_memory new_reads new_faults 0)
-    → IsRecorded registration room answer recorded (passing left new_left began sent) told_calls
-    → IsFaithful relations (passing left new_left began sent) recorded
+    → IsRecorded registration room answer recorded (passing left new_left began sent refused) told_calls
+    → IsFaithful relations (passing left new_left began sent refused) recorded
     → WasRecorded pid key relations answer recorded left new_left (in_memory reads faults writes) (in_memory new_reads new_faults new_writes)
-was_recorded registration pid key relations answer recorded left new_left began sent calls went_calls told_calls reads new_reads faults
+was_recorded registration pid key relations answer recorded left new_left began sent refused calls went_calls told_calls reads new_reads faults
     new_faults writes new_writes is none gone heard answered went cause complete told faithful = record {
       calls = calls;
       sent = sent;
+      refused = refused;
       answered = answered;
       went = subst (λ r. WentByTables relations r answer left new_left (Some []) (Some sent) calls) is
           (subst (λ b. WentByTables relations registration answer left new_left (Some b) (Some sent) calls) none
@@ -95,8 +106,8 @@ was_recorded registration pid key relations answer recorded left new_left began 
       cause = cause_in_memory reads new_reads faults new_faults writes new_writes answer turns (questions calls)
           (subst (λ k. HasCause answer turns (questions k) (in_memory reads faults 0) (in_memory new_reads new_faults 0)) gone cause);
       complete = complete_in_memory reads new_reads faults new_faults writes new_writes relations turns answer left complete;
-      told = subst (λ r. IsRecorded r room answer recorded (passing left new_left [] sent) calls) is
-          (subst (λ b. IsRecorded registration room answer recorded (passing left new_left b sent) calls) none
-          (subst (λ k. IsRecorded registration room answer recorded (passing left new_left began sent) k) heard told));
-      faithful = subst (λ b. IsFaithful relations (passing left new_left b sent) recorded) none faithful;
+      told = subst (λ r. IsRecorded r room answer recorded (passing left new_left [] sent refused) calls) is
+          (subst (λ b. IsRecorded registration room answer recorded (passing left new_left b sent refused) calls) none
+          (subst (λ k. IsRecorded registration room answer recorded (passing left new_left began sent refused) k) heard told));
+      faithful = subst (λ b. IsFaithful relations (passing left new_left b sent refused) recorded) none faithful;
     }

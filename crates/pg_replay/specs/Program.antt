@@ -20,7 +20,8 @@ use Rattle.relation_tables.specs.declared.Relation.{Relation}
 use Rattle.replay_streams.specs.RecordedRuns.{IsRecordedRun}
 use Rattle.session_recording.specs.declared.error.RecordError.{RecordError}
 use Rattle.session_recording.specs.declared.error.RecordError.TheVariants as refusal
-use Rattle.session_recording.specs.Recorded.{IsRecorded, IsFaithful}
+use Rattle.session_recording.specs.Kept.{counted}
+use Rattle.session_recording.specs.Recorded.{IsRecorded, IsFaithful, Passage}
 use Rattle.session_replay.specs.declared.verdict.Verdict.{Verdict}
 use Rattle.session_replay.specs.declared.verdict.Verdict.TheVariants as verdict
 use Rattle.session_replay.specs.Verdicts.{IsReplay, IsVerdict, IsVerdictOn}
@@ -80,6 +81,20 @@ turns = 1000000000
 abbrev pub room : ℕ
 room = 268435456
 
+-- A session took bytes of a client, and its replies went to memory, to a sink to which nothing had been written. So many of its sends found
+-- no memory.
+abbrev pub passage_in_memory : Option (List ℕ) → Option (List ℕ) → List ℕ → ℕ → Passage
+passage_in_memory left new_left replies refused = record {
+  left = left;
+  new_left = new_left;
+  written = Some [];
+  new_written = Some replies;
+  refused = 0;
+  new_refused = refused;
+  sent = 0;
+  new_sent = counted (length replies);
+}
+
 -- A client was served over the relations under a pid and a key, and recorded. The registry answered each question no. What was sent and
 -- called is the conversation tables' answer. The session's end, or what it was given up for, has its cause. Enough turns bring it to its
 -- end. There is the recording of it, or why there is none.
@@ -87,13 +102,13 @@ pub record WasRecorded (pid : ℤ) (key : List ℕ) (relations : List Relation) 
     (recorded : Result Recording RecordError) (left new_left : Option (List ℕ)) (before after : Counts) : Type 0 where
   pub calls : List DeskCall
   pub sent : List ℕ
+  pub refused : ℕ
   pub answered : AllByRecursion (λ yes. yes ≡ false) (answers_of calls)
   pub went : WentByTables relations (pid, key) answer left new_left (Some []) (Some sent) calls
   pub cause : HasCause answer turns (questions calls) before after
   pub complete : IsComplete relations turns answer left before after
-  pub told : IsRecorded (pid, key) room answer recorded
-      (record { left = left; new_left = new_left; written = Some []; new_written = Some sent }) calls
-  pub faithful : IsFaithful relations (record { left = left; new_left = new_left; written = Some []; new_written = Some sent }) recorded
+  pub told : IsRecorded (pid, key) room answer recorded (passage_in_memory left new_left sent refused) calls
+  pub faithful : IsFaithful relations (passage_in_memory left new_left sent refused) recorded
 
 -- What a session and its recording come to: the recording is written where there is one; and nothing is where the session was given up, or
 -- there was no room.

@@ -161,6 +161,7 @@ fn record_client<S: Source, K: Sink>(
     let mut desk = ScriptDesk::new(alloc, pid, key, PgList::new(alloc));
     let mut sink = BytesSink {
         bytes: Vec::new(alloc),
+        refused: 0,
     };
     let (answer, recorded) = record_session(
         alloc, relations, &mut desk, client, &mut sink, TURNS, ROOM,

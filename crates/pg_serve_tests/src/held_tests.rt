@@ -230,6 +230,10 @@ impl<'f> Sink for NotingSink<'f> {
 
     ghost faults = { λ s. s.sink.faults };
 
+    ghost refused = { λ s. s.sink.refused };
+
+    ghost sent = { λ s. s.sink.sent };
+
     fn send(&mut self, bytes: &[u8]) -> Result<(), SinkError> {
         self.sink.send(bytes)?;
         self.ready.set(self.sink.bytes().ends_with(READY));

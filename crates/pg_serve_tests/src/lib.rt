@@ -1,6 +1,6 @@
 //! Tests of the engine's edges: what no row of a table program can say. Who accepts connections and
 //! where keys come from, adapters over readers and writers that fail, a cancel by another connection,
-//! and calls that a session makes in another way.
+//! calls that a session makes in another way, and calls that no conversation over relations makes.
 #![tactic(auto)]
 
 mod examples;
@@ -15,5 +15,7 @@ mod adapter_tests;
 mod held_tests;
 #[cfg(test)]
 mod key_tests;
+#[cfg(test)]
+mod rare_tests;
 #[cfg(test)]
 mod send_tests;

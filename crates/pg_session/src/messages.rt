@@ -13,9 +13,11 @@ use pg_messages::PgWireFrontendMessage;
 use pg_portal::{PgWireConnectionState, PgWireError, PortalStore};
 use std::alloc::Global;
 
+mod queries;
 mod ready;
 mod unready;
 
+pub(crate) use queries::QueryMessage;
 pub(crate) use ready::ReadyMessage;
 use ready::on_ready;
 use unready::on_unready;

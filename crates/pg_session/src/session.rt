@@ -3,8 +3,10 @@
 ghost use Rattle.std.specs.Prelude.{◌≡◌, ◌++◌, [], take, true, length, IfOk, OnOk, OnErr};
 ghost use Rattle.std.specs.Arc.{arc_value};
 ghost use Rattle.pg_portal.specs.Maps.{no_maps};
-ghost use Rattle.pg_client.specs.State.{first_info, first_state};
+ghost use Rattle.pg_client.specs.State.{first_info, first_state, state_of};
+ghost use Rattle.conversation_table.specs.Good.{IsGoodState};
 ghost use Rattle.conversation_runs.specs.Session.{ChangesUnsent};
+ghost use Rattle.pg_session.specs.Stored.{StoresAlike};
 
 use bytes::BytesMut;
 use pg_handlers::{Client, ExtendedQueryHandler, Outbox, PgWireServerHandlers};
@@ -158,6 +160,33 @@ impl<
         self.opened
     }
 
+    /// The client: what is known of it, its statements and portals, and the replies that wait. While
+    /// the session is open, the statements and portals are good under its handlers.
+    pub fn client(&self) -> &Client<St>
+        ensures state { state_of St.maps result.now ≡ self.now.state }
+        ensures unsent { result.now.outbox ≡ self.now.unsent }
+        ensures good { self.now.is_open ≡ true
+            → IsGoodState (H.told self.now.handlers).extended.parser self.now.state }
+    {
+        &self.client
+    }
+
+    /// Answers what comes by these handlers from here on. The statements and portals stay, and have
+    /// to be as good under them: their parser gives the same statements, with the same columns.
+    pub fn tell_by(&mut self, handlers: Arc<H>)
+        requires alike { StoresAlike (H.told self.old.handlers).extended.parser
+            (H.told (arc_value handlers)).extended.parser }
+        ensures { self.new ≡ record {
+          handlers = arc_value handlers;
+          state = self.old.state;
+          rest = self.old.rest;
+          unsent = self.old.unsent;
+          is_open = self.old.is_open;
+        } }
+    {
+        self.handlers = handlers;
+    }
+
     /// The replies that wait to be sent.
     pub fn unsent(&self) -> &Outbox
         ensures { result.now ≡ self.now.unsent }
@@ -187,6 +216,7 @@ fn replace_behind(outbox: &mut Outbox, len: usize, bytes: &[u8]) -> Result<(), A
 
 mod answer;
 mod feed;
+mod query;
 mod step;
 
 pub use answer::{process_error, process_message};

@@ -46,13 +46,15 @@ pub record IsNextCall (failed : Bool) (old new : Tape) : Type 0 where
   pub calls : new.calls ≡ raised old.calls
   pub faults : new.faults ≡ counted failed old.faults
 
--- What a sink in memory has: all that was written, the numbers of the calls that fail, each with the bytes that it takes, and how many
--- calls and faults there were.
+-- What a sink in memory has: all that was written, the numbers of the calls that fail, each with the bytes that it takes, how many calls
+-- and faults there were, how many sends were refused, and how many bytes were sent by the others.
 pub record Drain : Type 0 where
   pub bytes : List ℕ
   pub fails : List (ℕ × ℕ)
   pub calls : ℕ
   pub faults : ℕ
+  pub refused : ℕ
+  pub sent : ℕ
 
 -- a sink that was never called, with these calls that fail
 pub record IsUnwritten (failing : List (ℕ × ℕ)) (d : Drain) : Type 0 where
@@ -60,6 +62,8 @@ pub record IsUnwritten (failing : List (ℕ × ℕ)) (d : Drain) : Type 0 where
   pub fails : d.fails ≡ failing
   pub calls : d.calls ≡ 0
   pub faults : d.faults ≡ 0
+  pub refused : d.refused ≡ 0
+  pub sent : d.sent ≡ 0
 
 -- the next call, if it is to fail, and how many bytes it takes
 abbrev pub told_to_fail : Drain → Option (ℕ × ℕ)

@@ -12,3 +12,8 @@ reads_of (Unix c) = c.reads
 abbrev pub faults_of : MaybeTls → ℕ
 faults_of (Plain c) = c.faults
 faults_of (Unix c) = c.faults
+
+-- the bytes of the sends that didn't fail
+abbrev pub sent_of : MaybeTls → ℕ
+sent_of (Plain c) = c.sent
+sent_of (Unix c) = c.sent

@@ -1,7 +1,8 @@
 //! A source over a reader and a sink over a writer: files and standard streams.
 
-ghost use Rattle.std.specs.Prelude.{None, length, OnOk, IsErrOf, IsTrue};
+ghost use Rattle.std.specs.Prelude.{◌≡◌, None, length, OnOk, IsErrOf, IsTrue};
 ghost use Rattle.std.specs.Io.KnownBytes.{ReadConsumes, Appends};
+ghost use Rattle.conversation_runs.specs.Streams.{sent_after};
 ghost use Rattle.pg_streams.specs.Counts.{CountsFaults, IsCountedRead};
 
 use conversation_runs::{Sink, SinkError, Source, SourceFailed};
@@ -48,14 +49,16 @@ impl<R: Read> Source for ReaderSource<R> {
     }
 }
 
-/// A sink over a writer, which is written to until it took all bytes, and then flushed. The count
-/// saturates at the greatest `u64`.
+/// A sink over a writer, which is written to until it took all bytes, and then flushed. Its counts
+/// saturate at the greatest `u64`.
 #[derive(Drop)]
 pub struct WriterSink<W: Write> {
     /// Where the bytes go.
     pub writer: W,
     /// How many calls failed.
     pub faults: u64,
+    /// How many bytes the other calls had.
+    pub sent: u64,
 }
 
 impl<W: Write> Sink for WriterSink<W> {
@@ -63,14 +66,21 @@ impl<W: Write> Sink for WriterSink<W> {
 
     ghost faults = { λ s. s.faults };
 
+    // each error is a fault
+    ghost refused = { λ s. s.faults };
+
+    ghost sent = { λ s. s.sent };
+
     fn send(&mut self, bytes: &[u8]) -> Result<(), SinkError>
         // what is known of the writer's bytes grows by all of them
         ensures writer { OnOk result (Appends (W.contents self.old.writer)
             (W.contents self.new.writer) bytes.now) }
         ensures counted { CountsFaults result self.old.faults self.new.faults }
+        ensures sent { self.new.sent ≡ sent_after result (length bytes.now) self.old.sent }
         ensures no_memory { IsErrOf result SinkError.NoMemory → ⊥ }
     {
         if write_whole(&mut self.writer, bytes) {
+            self.sent = self.sent.saturating_add(bytes.len() as u64);
             Ok(())
         } else {
             self.faults = self.faults.saturating_add(1);

@@ -2,7 +2,7 @@
 
 ghost use Rattle.std.specs.Prelude.{◌≡◌, Some, ◌≤◌, ◌<◌, ◌++◌, ◌==◌, min, take, length, find, IfOk, IfErr, OnErr, OnOk};
 ghost use Rattle.std.specs.Result.{is_err};
-ghost use Rattle.conversation_runs.specs.Streams.{GivesFront, GrowsBy, GrowsByFront};
+ghost use Rattle.conversation_runs.specs.Streams.{GivesFront, GrowsBy, GrowsByFront, refused_after, sent_after};
 ghost use Rattle.pg_streams.specs.Counts.{CountsWriteFaults, IsCountedRead, raised};
 ghost use Rattle.pg_streams.specs.Memory.{received, most_of, IsNextCall, IsUnread, IsUnwritten, told_to_fail, TakesAsTold};
 
@@ -123,6 +123,8 @@ pub struct MemorySink {
     fails: PgList<(u64, usize)>,
     calls: u64,
     faults: u64,
+    refused: u64,
+    sent: u64,
 }
 
 impl Model for MemorySink {
@@ -135,6 +137,8 @@ impl Model for MemorySink {
       fails = s.fails;
       calls = s.calls;
       faults = s.faults;
+      refused = s.refused;
+      sent = s.sent;
     } };
 }
 
@@ -150,6 +154,8 @@ impl MemorySink {
             fails,
             calls: 0,
             faults: 0,
+            refused: 0,
+            sent: 0,
         }
     }
 
@@ -173,12 +179,18 @@ impl Sink for MemorySink {
 
     ghost faults = { λ s. s.faults };
 
+    ghost refused = { λ s. s.refused };
+
+    ghost sent = { λ s. s.sent };
+
     fn send(&mut self, bytes: &[u8]) -> Result<(), SinkError>
         ensures taken { TakesAsTold (told_to_fail self.old) result self.old.bytes self.new.bytes
             bytes.now }
         ensures fails { self.new.fails ≡ self.old.fails }
         ensures calls { self.new.calls ≡ raised self.old.calls }
         ensures counted { CountsWriteFaults result self.old.faults self.new.faults }
+        ensures refused { self.new.refused ≡ refused_after result self.old.refused }
+        ensures sent { self.new.sent ≡ sent_after result (length bytes.now) self.old.sent }
         ensures ok { OnOk result (GrowsBy (Some self.old.bytes) (Some self.new.bytes) bytes.now) }
         ensures err { OnErr result (GrowsByFront (Some self.old.bytes) (Some self.new.bytes)
             bytes.now) }
@@ -186,10 +198,15 @@ impl Sink for MemorySink {
         let call = self.calls;
         self.calls = call.saturating_add(1);
         match told_failure(self.fails.as_slice(), call) {
-            None => self.append(bytes),
+            None => {
+                self.append(bytes)?;
+                self.sent = self.sent.saturating_add(bytes.len() as u64);
+                Ok(())
+            }
             Some((_, n)) => {
                 self.append(&bytes[..n.min(bytes.len())])?;
                 self.faults = self.faults.saturating_add(1);
+                self.refused = self.refused.saturating_add(1);
                 Err(SinkError::Failed)
             }
         }
@@ -197,15 +214,19 @@ impl Sink for MemorySink {
 }
 
 impl MemorySink {
-    /// Appends bytes. Where memory runs out, it appends none of them.
+    /// Appends bytes. Where memory runs out, it appends none of them, and the send is refused.
     fn append(&mut self, bytes: &[u8]) -> Result<(), SinkError>
         ensures ok { OnOk result (self.new
             ≡ record self.old { bytes = self.old.bytes ++ bytes.now }) }
-        ensures err { IfErr result (λ e. (e ≡ SinkError.NoMemory) × (self.new ≡ self.old)) }
+        ensures err { IfErr result (λ e. (e ≡ SinkError.NoMemory)
+            × (self.new ≡ record self.old { refused = raised self.old.refused })) }
     {
         match self.bytes.extend_from_slice(bytes) {
             Ok(()) => Ok(()),
-            Err(_) => Err(SinkError::NoMemory),
+            Err(_) => {
+                self.refused = self.refused.saturating_add(1);
+                Err(SinkError::NoMemory)
+            }
         }
     }
 }

@@ -2,8 +2,9 @@
 
 ghost use Rattle.std.specs.Prelude.{◌≡◌, None, length, OnOk, IsErrOf};
 ghost use Rattle.std.specs.Io.KnownBytes.{ReadConsumes, Appends};
+ghost use Rattle.conversation_runs.specs.Streams.{sent_after};
 ghost use Rattle.pg_streams.specs.Counts.{CountsFaults, IsCountedRead};
-ghost use Rattle.pg_streams.specs.Sockets.{reads_of, faults_of};
+ghost use Rattle.pg_streams.specs.Sockets.{reads_of, faults_of, sent_of};
 
 use crate::adapters::write_whole;
 use conversation_runs::{Sink, SinkError, Source, SourceFailed};
@@ -20,6 +21,8 @@ pub struct Counted<T> {
     pub reads: u64,
     /// How many calls failed.
     pub faults: u64,
+    /// How many bytes the sends had that didn't fail.
+    pub sent: u64,
 }
 
 impl<T> Counted<T> {
@@ -27,12 +30,14 @@ impl<T> Counted<T> {
     pub fn new(stream: T) -> Counted<T>
         ensures reads { result.reads ≡ 0 }
         ensures faults { result.faults ≡ 0 }
+        ensures sent { result.sent ≡ 0 }
         ensures stream { result.stream ≡ stream }
     {
         Counted {
             stream,
             reads: 0,
             faults: 0,
+            sent: 0,
         }
     }
 }
@@ -78,9 +83,11 @@ impl<T: Write> Counted<T> {
             (T.contents self.new.stream) bytes.now) }
         ensures reads { self.new.reads ≡ self.old.reads }
         ensures counted { CountsFaults result self.old.faults self.new.faults }
+        ensures sent { self.new.sent ≡ sent_after result (length bytes.now) self.old.sent }
         ensures no_memory { IsErrOf result SinkError.NoMemory → ⊥ }
     {
         if write_whole(&mut self.stream, bytes) {
+            self.sent = self.sent.saturating_add(bytes.len() as u64);
             Ok(())
         } else {
             self.faults = self.faults.saturating_add(1);
@@ -110,15 +117,21 @@ impl Source for MaybeTls {
 }
 
 impl Sink for MaybeTls {
-    ghost use Rattle.pg_streams.specs.Sockets.{faults_of};
+    ghost use Rattle.pg_streams.specs.Sockets.{faults_of, sent_of};
 
     ghost written = { λ _. None };
 
     ghost faults = { faults_of };
 
+    // each error is a fault
+    ghost refused = { faults_of };
+
+    ghost sent = { sent_of };
+
     fn send(&mut self, bytes: &[u8]) -> Result<(), SinkError>
         ensures reads { reads_of self.new ≡ reads_of self.old }
         ensures counted { CountsFaults result (faults_of self.old) (faults_of self.new) }
+        ensures sent { sent_of self.new ≡ sent_after result (length bytes.now) (sent_of self.old) }
         ensures no_memory { IsErrOf result SinkError.NoMemory → ⊥ }
     {
         match self {

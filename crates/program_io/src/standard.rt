@@ -18,7 +18,11 @@ pub fn standard_input<R: Input>(rt: &R) -> ReaderSource<R::Reader>
 
 /// A sink over a writer, such as the standard output or the error output.
 pub fn sink_over<W: Write>(writer: W) -> WriterSink<W>
-    ensures { result ≡ record { writer = writer; faults = 0 } }
+    ensures { result ≡ record { writer = writer; faults = 0; sent = 0 } }
 {
-    WriterSink { writer, faults: 0 }
+    WriterSink {
+        writer,
+        faults: 0,
+        sent: 0,
+    }
 }

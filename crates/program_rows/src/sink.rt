@@ -13,6 +13,7 @@ use std::alloc::Global;
 pub struct RowSink {
     sink: MemorySink,
     calls: u64,
+    refused: u64,
     short_at: Option<u64>,
 }
 
@@ -23,6 +24,7 @@ impl RowSink {
         RowSink {
             sink: MemorySink::new(alloc, failures),
             calls: 0,
+            refused: 0,
             short_at,
         }
     }
@@ -38,13 +40,22 @@ impl Sink for RowSink {
 
     ghost faults = { λ s. s.sink.faults };
 
+    ghost refused = { λ s. s.refused };
+
+    ghost sent = { λ s. s.sink.sent };
+
     fn send(&mut self, bytes: &[u8]) -> Result<(), SinkError> {
         let call = self.calls;
         self.calls = call.saturating_add(1);
-        if self.short_at == Some(call) {
-            return Err(SinkError::NoMemory);
+        let answer = if self.short_at == Some(call) {
+            Err(SinkError::NoMemory)
+        } else {
+            self.sink.send(bytes)
+        };
+        if answer.is_err() {
+            self.refused = self.refused.saturating_add(1);
         }
-        self.sink.send(bytes)
+        answer
     }
 }
 

@@ -1,6 +1,6 @@
 //! How a recording is written as bytes.
 
-ghost use Rattle.std.specs.Prelude.{◌≡◌, ◌<◌, ◌^◌, ◌++◌, length, IfOk, OnOk};
+ghost use Rattle.std.specs.Prelude.{◌≡◌, ◌≤◌, ◌<◌, ◌^◌, ◌++◌, length, IfOk, OnOk};
 ghost use Rattle.std.specs.List.{flat_map};
 ghost use Rattle.recording_text.specs.Text.{call_text, calls_text, key_text, bytes_text, end_byte, recording_text};
 ghost use Rattle.pg_messages.specs.Fields.{int32};
@@ -29,8 +29,11 @@ pub fn write_recording(alloc: Global, recording: &Recording) -> Result<PgBytes, 
     Ok(PgBytes::from_vec(out))
 }
 
-/// How many bytes the text of a recording has, so that they are taken at once.
-fn text_len(recording: &Recording) -> usize {
+/// How many bytes the text of a recording has, so that they are taken at once, and no more. The
+/// number stops at the greatest `usize`.
+fn text_len(recording: &Recording) -> usize
+    ensures { result ≤ length (recording_text recording.now) }
+{
     // The tag, pid, three counts and the end are 29 bytes, a key's length is two.
     calls_len(recording.calls.as_slice())
         .saturating_add(recording.client.len())
@@ -39,7 +42,9 @@ fn text_len(recording: &Recording) -> usize {
 }
 
 /// How many bytes the calls take.
-fn calls_len(calls: &[DeskCall]) -> usize {
+fn calls_len(calls: &[DeskCall]) -> usize
+    ensures { result ≤ length (flat_map call_text calls.now) }
+{
     let mut len = 0usize;
     for call in calls {
         len = len.saturating_add(call_len(call));
@@ -48,7 +53,9 @@ fn calls_len(calls: &[DeskCall]) -> usize {
 }
 
 /// How many bytes a call takes.
-fn call_len(call: &DeskCall) -> usize {
+fn call_len(call: &DeskCall) -> usize
+    ensures { result ≡ length (call_text call.now) }
+{
     match call {
         DeskCall::Start | DeskCall::Ask(_) | DeskCall::Narrow => 1,
         DeskCall::Cancel(_, key, _) => key.as_slice().len() + 7,

@@ -65,7 +65,7 @@ impl<'r> Model for RelationRows<'r> {
 impl<'r> RelationRows<'r> {
     /// The maker of the rows of the relation at a place. The format of each column and the style of
     /// the options are judged already. It takes no memory.
-    pub(crate) fn new(
+    pub fn new(
         alloc: Global,
         relations: &'r RelationTable,
         relation: u32,

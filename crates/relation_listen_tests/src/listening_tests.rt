@@ -10,7 +10,7 @@ use sample_registry::Registry;
 use std::alloc::{AllocError, Global};
 use std::sync::{Arc, Wait};
 
-/// An end of a connection whose client sends nothing. It counts its calls.
+/// An end of a connection whose client sends nothing and takes nothing. It counts its calls.
 #[derive(Drop)]
 struct Silence {
     calls: u64,
@@ -38,9 +38,13 @@ impl Sink for Silence {
 
     ghost faults = { λ _. 0 };
 
+    ghost refused = { λ s. s.calls };
+
+    ghost sent = { λ _. 0 };
+
     fn send(&mut self, _bytes: &[u8]) -> Result<(), SinkError> {
         self.calls = self.calls.saturating_add(1);
-        Ok(())
+        Err(SinkError::NoMemory)
     }
 }
 

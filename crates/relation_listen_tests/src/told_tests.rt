@@ -12,10 +12,18 @@ use std::alloc::{AllocError, Global};
 use std::collections::VecDeque;
 use std::sync::{Arc, Wait};
 
-/// An end of a connection whose client sends nothing. It has the connection's number.
+/// An end of a connection whose client sends nothing. It has the connection's number, and counts the
+/// bytes that it is sent.
 #[derive(Drop)]
 struct Numbered {
     number: u64,
+    sent: u64,
+}
+
+impl Numbered {
+    fn new(number: u64) -> Numbered {
+        Numbered { number, sent: 0 }
+    }
 }
 
 impl Source for Numbered {
@@ -39,7 +47,12 @@ impl Sink for Numbered {
 
     ghost faults = { λ _. 0 };
 
-    fn send(&mut self, _bytes: &[u8]) -> Result<(), SinkError> {
+    ghost refused = { λ _. 0 };
+
+    ghost sent = { λ s. s.sent };
+
+    fn send(&mut self, bytes: &[u8]) -> Result<(), SinkError> {
+        self.sent = self.sent.saturating_add(bytes.len() as u64);
         Ok(())
     }
 }
@@ -129,7 +142,7 @@ fn make_waiting(alloc: Global) -> Option<Waiting>
 {
     let mut connections = VecDeque::new(alloc);
     for number in 1..=CONNECTIONS {
-        let connection = (Numbered { number }, Numbered { number });
+        let connection = (Numbered::new(number), Numbered::new(number));
         connections.push_back(connection).ok()?;
     }
     Some(Waiting {
@@ -223,4 +236,39 @@ fn each_connection_becomes_its_own_job(rt: HostRuntime) {
     assert!(rt; become_jobs(&rt, alloc, Some(3), 3, true));
     assert!(rt; become_jobs(&rt, alloc, Some(4), 3, false));
     assert!(rt; become_jobs(&rt, alloc, None, 3, false));
+}
+
+/// Whether the connection of a job, whose pid is 1, hears a cancel through this registry.
+fn is_heard<R: Wait>(rt: &R, registry: &mut Registry, job: NumberedJob) -> Option<bool> {
+    let ConnectionJob {
+        manager,
+        relations: _relations,
+        handle,
+        source: _source,
+        sink: _sink,
+        turn_limit: _turn_limit,
+    } = job;
+    let mut handle = handle;
+    let mut canceler = registry.register(rt, 9)?;
+    let key = registry.key()?;
+    manager.start_query(rt, &mut handle).ok()?;
+    let is_met = registry.manager.cancel(rt, &mut canceler, 1, &key).ok()?;
+    Some(is_met && manager.ask(rt, &mut handle).ok()?)
+}
+
+/// Whether it is so of the job of a connection that was taken in at the registry.
+fn is_heard_at<R: Wait>(rt: &R, registry: &mut Registry) -> Option<bool> {
+    let (mut keeping, _, _) = take_in(rt, registry, Some(1))?;
+    let job = keeping.jobs.pop()?;
+    is_heard(rt, registry, job)
+}
+
+/// A job has the registry that its connection was registered at.
+#[test]
+fn a_job_hears_a_cancel(rt: HostRuntime) {
+    let told = match Registry::new(rt.alloc()) {
+        Some(mut registry) => is_heard_at(&rt, &mut registry),
+        None => None,
+    };
+    assert!(rt; told == Some(true));
 }

@@ -11,15 +11,15 @@ ghost use Rattle.relation_serving.specs.Completeness.{IsComplete};
 ghost use Rattle.relation_serving.specs.Serving.{WentByTables};
 
 use conversation_runs::{ServeError, Sink, Source};
-use many_clients::{Service, serve_registered};
+use many_clients::serve_registered;
 use pg_cancel::{ConnectionHandle, ConnectionManager};
-use pg_client::{CancelDesk, EndKind};
+use pg_client::EndKind;
 use relation_handlers::RelationTable;
-use relation_serving::serve_relations_on;
+use relation_services::LentRelations;
 use std::alloc::Global;
 use std::sync::Wait;
 
-/// Serves a client over relations, as [`serve_relations_on`] does, through its connection to the
+/// Serves a client over relations, as `serve_relations_on` does, through its connection to the
 /// shared registry, so that the clients of other threads may cancel its queries. It waits for others
 /// only at the registry, for its turn, once for each call.
 ///
@@ -62,42 +62,8 @@ pub fn serve_relations<R: Wait, S: Source, K: Sink>(
     ensures usable { StaysUsable handle.old handle.new }
 {
     let _valid = relations.relations();
-    let service = Relations { relations };
+    let service = LentRelations { relations };
     serve_registered(
         rt, alloc, manager, handle, &service, source, sink, turn_limit,
     )
-}
-
-/// Relations as what a client is served, for as long as they are lent.
-#[derive(Drop)]
-struct Relations<'r> {
-    relations: &'r RelationTable,
-}
-
-impl Service for Relations<'_> {
-    ghost use Rattle.pg_client.specs.State.{State, first_state};
-    ghost use Rattle.conversation_runs.specs.Session.{whole_rules};
-    ghost use Rattle.relation_serving.specs.Completeness.{IsComplete};
-    ghost use Rattle.relation_tables.specs.RelationHandler.{relation_handlers};
-    ghost use Rattle.relation_tables.specs.declared.RelationStatement.{RelationStatement};
-
-    ghost At = { State RelationStatement };
-
-    ghost rules = { λ s. whole_rules (relation_handlers s.relations.now) };
-
-    ghost first = { λ s pid key. first_state pid key };
-
-    ghost also = { λ s turns answer left before after.
-        IsComplete s.relations.now turns answer left before after };
-
-    fn serve<D: CancelDesk, S: Source, K: Sink>(
-        &self,
-        alloc: Global,
-        desk: &mut D,
-        source: &mut S,
-        sink: &mut K,
-        turn_limit: u64,
-    ) -> Result<EndKind, ServeError> {
-        serve_relations_on(alloc, desk, self.relations, source, sink, turn_limit)
-    }
 }

@@ -1,5 +1,6 @@
 //! Tests of what no row of a table program and no contract can say of a server of relations: jobs,
-//! threads and sockets. Conversations are rows of programs of their own.
+//! threads and sockets, and calls that no conversation makes. Conversations are rows of programs of
+//! their own.
 #![tactic(auto)]
 
 mod examples;
@@ -10,6 +11,8 @@ pub use examples::first_path_is_core;
 mod clients;
 #[cfg(test)]
 mod job_tests;
+#[cfg(test)]
+mod parser_tests;
 #[cfg(test)]
 mod relations;
 #[cfg(test)]

@@ -22,6 +22,10 @@ use std::thread::Threads;
 use std::time::Clock;
 use std::{env, fs, process, thread};
 
+/// How many turns the client has: fewer than its bytes, which come at once, so that they aren't read
+/// one by one.
+const TURNS: u64 = 10;
+
 /// Whether a client that sends the first path reads its replies, byte for byte, and then the end.
 fn is_answered<S: Read + Write>(stream: &mut S) -> bool {
     let mut replies = [0u8; FIRST_REPLIES.len()];
@@ -46,10 +50,10 @@ fn serve<R: Wait, H: PgWireServerHandlers + Drop>(
     let store = MemPortalStore::new(alloc);
     match reader {
         MaybeTls::Plain(_) => process_socket(
-            rt, alloc, reader, writer, handlers, store, manager, handle, 100,
+            rt, alloc, reader, writer, handlers, store, manager, handle, TURNS,
         ),
         MaybeTls::Unix(_) => process_socket_unix(
-            rt, alloc, reader, writer, handlers, store, manager, handle, 100,
+            rt, alloc, reader, writer, handlers, store, manager, handle, TURNS,
         ),
     }
 }

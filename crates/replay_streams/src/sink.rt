@@ -1,6 +1,7 @@
 //! A sink in memory.
 
-ghost use Rattle.std.specs.Prelude.{Some};
+ghost use Rattle.std.specs.Prelude.{Some, min, length};
+ghost use Rattle.conversation_runs.specs.Streams.{greatest_count};
 
 use conversation_runs::{Sink, SinkError};
 
@@ -9,6 +10,8 @@ use conversation_runs::{Sink, SinkError};
 pub struct BytesSink {
     /// All that was written.
     pub bytes: Vec<u8>,
+    /// How many sends found no memory. The count stands still at the greatest `u64`.
+    pub refused: u64,
 }
 
 impl Sink for BytesSink {
@@ -16,10 +19,18 @@ impl Sink for BytesSink {
 
     ghost faults = { λ _. 0 };
 
+    ghost refused = { λ s. s.refused };
+
+    // it keeps all that was sent, and nothing else
+    ghost sent = { λ s. min (length s.bytes.items) greatest_count };
+
     fn send(&mut self, bytes: &[u8]) -> Result<(), SinkError> {
         match self.bytes.extend_from_slice(bytes) {
             Ok(()) => Ok(()),
-            Err(_) => Err(SinkError::NoMemory),
+            Err(_) => {
+                self.refused = self.refused.saturating_add(1);
+                Err(SinkError::NoMemory)
+            }
         }
     }
 }

@@ -36,6 +36,24 @@ known_again name new_name room new_room origin new_origin told new_told e =
           ∙ drop-append_seam origin (told_numbers told));
     }
 
+-- the recorder of a sink tells its counts before the rest
+pub record IsSameSink (sent new_sent refused new_refused name new_name room new_room : ℕ) (origin new_origin : List ℕ)
+    (told new_told : Option (List ℕ)) : Type 0 where
+  pub same_sent : new_sent ≡ sent
+  pub same_refused : new_refused ≡ refused
+  pub same : IsSameRecorder name new_name room new_room origin new_origin told new_told
+
+pub sink_known_again : (sent new_sent refused new_refused name new_name room new_room : ℕ) (origin new_origin : List ℕ)
+    (told new_told : Option (List ℕ))
+    → new_sent ∷ new_refused ∷ new_name ∷ new_room ∷ length new_origin ∷ new_origin ++ told_numbers new_told
+    ≡ sent ∷ refused ∷ name ∷ room ∷ length origin ∷ origin ++ told_numbers told
+    → IsSameSink sent new_sent refused new_refused name new_name room new_room origin new_origin told new_told
+sink_known_again sent new_sent refused new_refused name new_name room new_room origin new_origin told new_told e = record {
+  same_sent = cc;
+  same_refused = cc;
+  same = known_again name new_name room new_room origin new_origin told new_told (ap (drop 2) e);
+}
+
 -- two lists that are the same begin alike
 pub same_head : (n new_n : ℕ) (rest new_rest : List ℕ) → new_n ∷ new_rest ≡ n ∷ rest → n ≡ new_n
 same_head n new_n rest new_rest e = cc

@@ -2,7 +2,6 @@
 use Rattle.std.specs.Prelude.{ℕ, ℤ, true, false, List, [], Result, Ok, Err, ◌≡◌, ◌≤◌, ◌<◌, ◌^◌, max}
 use Rattle.pg_client.specs.declared.ends.EndKind.{EndKind}
 use Rattle.conversation_runs.specs.declared.ends.ServeError.{ServeError}
-use Rattle.conversation_runs.specs.declared.ends.ServeError.TheVariants.{WriteFault, NoMemory}
 use Rattle.recording_text.specs.declared.recording.Recording.{Recording}
 use Rattle.session_recording.specs.declared.keeping.FirstBytes.{FirstBytes}
 use Rattle.session_recording.specs.declared.error.RecordError.{RecordError}
@@ -24,12 +23,6 @@ pub record IsSpaceFor (registration : ℤ × List ℕ) (room : ℕ) (space : Spa
   pub replies : IsUnused space.replies room
   pub small : room < 2 ^ 63
 
--- a session with this answer may have met a send that was refused
-abbrev pub MayMeetRefusal : Result EndKind ServeError → Type 0
-MayMeetRefusal (Err WriteFault) = Unit {0}
-MayMeetRefusal (Err NoMemory) = Unit {0}
-MayMeetRefusal answer = ⊥
-
 -- The recording is made of what was kept: there was room for all of it, no send was refused, and the session came to its end.
 pub record IsMadeOf (answer : Result EndKind ServeError) (room : ℕ) (own_pid : ℤ) (own_key : List ℕ) (kept : Kept)
     (r : Recording) : Type 0 where
@@ -43,12 +36,14 @@ pub record IsMadeOf (answer : Result EndKind ServeError) (room : ℕ) (own_pid :
   pub calls : r.calls ≡ kept.calls.items
   pub replies : r.replies ≡ kept.replies.bytes.items
 
--- Why no recording is made of what was kept: it was too long, or else the session was given up. Where a send was refused and the session
--- went on, memory ran out.
+-- there was room for what was kept
+abbrev pub HadRoomFor : ℕ → Kept → Type 0
+HadRoomFor room kept = (kept.client.count ≤ room) × (kept.replies.count ≤ room)
+
+-- Why no recording is made of what was kept: it was too long; or else the session was given up; or else a send was refused.
 abbrev pub IsRefusedOf : Result EndKind ServeError → ℕ → Kept → RecordError → Type 0
 IsRefusedOf answer room kept (refusal.TooLong n) = (n ≡ max kept.client.count kept.replies.count) × (room < n)
-    × (kept.has_refused ≡ true → MayMeetRefusal answer)
 IsRefusedOf (Ok kind) room kept refusal.Unended = ⊥
-IsRefusedOf (Err e) room kept refusal.Unended = (kept.client.count ≤ room) × (kept.replies.count ≤ room)
-    × (kept.has_refused ≡ true → MayMeetRefusal (Err e))
-IsRefusedOf answer room kept refusal.NoMemory = (kept.has_refused ≡ true) × (¬ MayMeetRefusal answer)
+IsRefusedOf (Err e) room kept refusal.Unended = HadRoomFor room kept
+IsRefusedOf (Ok kind) room kept refusal.NoMemory = HadRoomFor room kept × (kept.has_refused ≡ true)
+IsRefusedOf (Err e) room kept refusal.NoMemory = ⊥

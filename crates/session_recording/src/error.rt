@@ -9,7 +9,7 @@ pub enum RecordError {
     TooLong(u64),
     /// The session was given up before its end.
     Unended,
-    /// Memory ran out before anything was served; or a send found none and the session went on, so
-    /// that it isn't known what the sink has taken.
+    /// There was no memory for the room; or a send was refused, and the session came to its end all
+    /// the same, so that it isn't known what the sink has taken.
     NoMemory,
 }

@@ -1,7 +1,7 @@
 //! What is kept of bytes that pass: the first ones, as many as there is room for, and the number of
 //! all.
 
-ghost use Rattle.std.specs.Prelude.{◌≡◌, ◌≤◌, ◌<◌, ◌+◌, ◌^◌, ◌∷◌, ◌++◌, [], take, length, vec_len, vec_capacity, IfOk, OnOk};
+ghost use Rattle.std.specs.Prelude.{◌≡◌, ◌≤◌, ◌<◌, ◌+◌, ◌^◌, ◌∷◌, ◌++◌, [], min, take, length, vec_len, vec_capacity, IfOk, OnOk};
 ghost use Rattle.session_recording.specs.Kept.{counted};
 
 use pg_client::DeskCall;
@@ -18,6 +18,7 @@ pub struct FirstBytes {
     pub count: u64,
     pub ghost roomy: { room ≤ vec_capacity bytes },
     pub ghost within: { length bytes.items ≤ room },
+    pub ghost measured: { length bytes.items ≡ min room count },
 }
 
 impl FirstBytes {

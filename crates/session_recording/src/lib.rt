@@ -7,7 +7,6 @@ mod desk;
 mod error;
 mod keeping;
 mod recorder;
-mod relations;
 mod services;
 mod sink;
 mod source;

@@ -1,6 +1,6 @@
 //! A session over relations is served and recorded.
 
-ghost use Rattle.std.specs.Prelude.{◌≡◌, ◌++◌, ◌↔◌, ℕ, Option, List, IfOk, IfErr, IfSome, IsTrue};
+ghost use Rattle.std.specs.Prelude.{◌≡◌, ◌++◌, List, IfOk, IfErr, IfSome};
 ghost use Rattle.conversation_table.specs.Questions.{questions_since};
 ghost use Rattle.pg_client.specs.declared.desk.DeskCall.{DeskCall};
 ghost use Rattle.pg_engine.specs.Around.{Serves, ServesSession, around};
@@ -8,14 +8,13 @@ ghost use Rattle.pg_engine.specs.Serving.{HasCause, counts_of};
 ghost use Rattle.relation_serving.specs.Completeness.{IsComplete};
 ghost use Rattle.relation_serving.specs.Serving.{WentByTables};
 ghost use Rattle.relation_tables.specs.RelationHandler.{relation_handlers};
-ghost use Rattle.session_recording.specs.Kept.{IsTakenOf, IsSentTo};
-ghost use Rattle.session_recording.specs.Making.{IsMadeOf, IsRefusedOf, IsSpaceFor, IsUnused, MayMeetRefusal};
+ghost use Rattle.session_recording.specs.Kept.{IsCountedBy, IsTakenOf, IsSentTo};
+ghost use Rattle.session_recording.specs.Making.{IsMadeOf, IsRefusedOf, IsSpaceFor, IsUnused};
 ghost use Rattle.session_recording.specs.Recorded.{IsRecorded, IsFaithful, passage};
 
 use crate::desk::RecordingDesk;
 use crate::error::RecordError;
 use crate::keeping::FirstBytes;
-use crate::relations::Relations;
 use crate::sink::RecordingSink;
 use crate::source::RecordingSource;
 use client_services::Service;
@@ -24,6 +23,7 @@ use pg_handlers::{CancelDesk, DeskCall, EndKind};
 use pg_messages::{PgBytes, PgList, SecretKey};
 use recording_text::Recording;
 use relation_handlers::RelationTable;
+use relation_services::LentRelations;
 use std::alloc::{AllocError, Global};
 
 /// Serves a client over relations, as `serve_relations_on` of relation_serving does, and records the
@@ -31,12 +31,13 @@ use std::alloc::{AllocError, Global};
 /// are those that the desk had before.
 ///
 /// Room for `room` bytes of the client, and for `room` bytes of the replies, is taken before
-/// anything is served. Where there isn't enough memory, both answers are NoMemory. Then each byte is
-/// copied once, and only calls of the desk take more memory.
+/// anything is served. Where there isn't enough memory, nothing is served, and both answers are
+/// NoMemory. Then each byte is copied once, and only calls of the desk take more memory.
 ///
-/// TooLong comes where there was no room for all bytes. It tells how many were read, or how many
-/// were sent by the sends that were answered with Ok, whichever is the greater. Else Unended comes
-/// where the first answer is an error.
+/// TooLong comes where there was no room for all bytes, however the session ended. It tells how many
+/// were read, or how many were sent by the sends that were answered with Ok, whichever is the
+/// greater. Else Unended comes where the first answer is an error. Else NoMemory comes where a send
+/// was refused and the session came to its end all the same.
 pub fn record_session<D: CancelDesk, S: Source, K: Sink>(
     alloc: Global,
     relations: &RelationTable,
@@ -51,9 +52,9 @@ pub fn record_session<D: CancelDesk, S: Source, K: Sink>(
     ensures recorded { (calls : List DeskCall)
         × ((D.told desk.new).calls ≡ (D.told desk.old).calls ++ calls)
         × IsRecorded (D.told desk.old).registration room result.0 result.1
-        (passage S.left K.written source.old sink.old source.new sink.new) calls }
+        (passage S.left K.written K.refused K.sent source.old sink.old source.new sink.new) calls }
     ensures faithful { IsFaithful relations.now
-        (passage S.left K.written source.old sink.old source.new sink.new) result.1 }
+        (passage S.left K.written K.refused K.sent source.old sink.old source.new sink.new) result.1 }
 
     // The session is served as without a recorder.
     ensures went { (calls : List DeskCall)
@@ -76,7 +77,7 @@ pub fn record_session<D: CancelDesk, S: Source, K: Sink>(
     let Ok(space) = reserve(alloc, room, desk) else {
         return (Err(ServeError::NoMemory), Err(RecordError::NoMemory));
     };
-    let service = Relations { relations };
+    let service = LentRelations { relations };
     record_in(alloc, &service, desk, source, sink, turn_limit, room, space)
 }
 
@@ -121,7 +122,7 @@ pub(crate) fn record_in<V: Service, D: CancelDesk, S: Source, K: Sink>(
     ensures recorded { (calls : List DeskCall)
         × ((D.told desk.new).calls ≡ (D.told desk.old).calls ++ calls)
         × IsRecorded (D.told desk.old).registration room result.0 result.1
-        (passage S.left K.written source.old sink.old source.new sink.new) calls }
+        (passage S.left K.written K.refused K.sent source.old sink.old source.new sink.new) calls }
     ensures serves { let round = around S.left S.reads S.faults S.origin K.written K.faults K.origin D.told in
         Serves (V.rules service.now)
         (V.first service.now (D.told desk.old).registration.0 (D.told desk.old).registration.1)
@@ -167,9 +168,10 @@ fn serve_recorded<V: Service, D: CancelDesk, S: Source, K: Sink>(
     requires replies { IsUnused replies replies.room }
     ensures client { IfSome (S.left source.old) (λ text. IsTakenOf text (S.left source.new)
         client.room result.1.client.bytes.items result.1.client.count) }
-    ensures replies { IfSome (K.written sink.old) (λ first. (until : Option (List ℕ))
-        × IsSentTo first until (K.written sink.new) replies.room
-        result.1.replies.bytes.items result.1.replies.count result.1.has_refused) }
+    ensures replies { IfSome (K.written sink.old) (λ first. IsSentTo first (K.written sink.new)
+        replies.room result.1.replies.bytes.items result.1.replies.count result.1.has_refused) }
+    ensures counted { IsCountedBy result.1.replies.count result.1.has_refused
+        (K.sent sink.old) (K.sent sink.new) (K.refused sink.old) (K.refused sink.new) }
     ensures client_room { result.1.client.room ≡ client.room }
     ensures replies_room { result.1.replies.room ≡ replies.room }
     ensures calls { (D.told desk.new).calls ≡ (D.told desk.old).calls ++ result.1.calls.items }
@@ -197,7 +199,6 @@ fn serve_recorded<V: Service, D: CancelDesk, S: Source, K: Sink>(
     let RecordingSink {
         sink,
         before: _,
-        until: _,
         kept: replies,
         has_refused,
     } = sink;
@@ -228,33 +229,23 @@ fn recording_of(
     ensures made { IfOk result (IsMadeOf answer room pid key kept) }
     ensures refused { IfErr result (IsRefusedOf answer room kept) }
 {
-    if kept.has_refused && !may_be_refused(answer) {
-        // A send found no memory, and the session went on; it isn't known what the sink has taken.
-        return Err(RecordError::NoMemory);
-    }
     let needed = kept.client.count.max(kept.replies.count);
     if needed > room as u64 {
         return Err(RecordError::TooLong(needed));
     }
-    match answer {
-        Err(_) => Err(RecordError::Unended),
-        Ok(end) => Ok(Recording {
-            pid,
-            key,
-            client: PgBytes::from_vec(kept.client.bytes),
-            calls: PgList::from_vec(kept.calls),
-            replies: PgBytes::from_vec(kept.replies.bytes),
-            end,
-        }),
+    let Ok(end) = answer else {
+        return Err(RecordError::Unended);
+    };
+    if kept.has_refused {
+        // The session came to its end all the same, and it isn't known what the sink took.
+        return Err(RecordError::NoMemory);
     }
-}
-
-/// Whether a session with this answer may have met a send that was refused.
-fn may_be_refused(answer: Result<EndKind, ServeError>) -> bool
-    ensures { IsTrue result ↔ MayMeetRefusal answer }
-{
-    match answer {
-        Err(ServeError::WriteFault) | Err(ServeError::NoMemory) => true,
-        Ok(_) | Err(ServeError::ReadFault) | Err(ServeError::TurnLimit) => false,
-    }
+    Ok(Recording {
+        pid,
+        key,
+        client: PgBytes::from_vec(kept.client.bytes),
+        calls: PgList::from_vec(kept.calls),
+        replies: PgBytes::from_vec(kept.replies.bytes),
+        end,
+    })
 }

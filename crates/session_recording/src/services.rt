@@ -4,7 +4,7 @@ ghost use Rattle.std.specs.Prelude.{◌≡◌, ◌++◌, List};
 ghost use Rattle.pg_client.specs.declared.desk.DeskCall.{DeskCall};
 ghost use Rattle.pg_engine.specs.Around.{Serves, around};
 ghost use Rattle.pg_engine.specs.Serving.{counts_of};
-ghost use Rattle.session_recording.specs.Recorded.{IsRecorded, passage};
+ghost use Rattle.session_recording.specs.Recorded.{IsRecordedIfRoom, passage};
 
 use crate::error::RecordError;
 use crate::recorder::{record_in, reserve};
@@ -23,9 +23,10 @@ use std::alloc::Global;
 /// the second answer is NoMemory. Else each byte is copied once, and only calls of the desk take more
 /// memory; a call for which there is none ends the session with NoMemory.
 ///
-/// TooLong comes where there was no room for all bytes. It tells how many were read, or how many
-/// were sent by the sends that were answered with Ok, whichever is the greater. Else Unended comes
-/// where the first answer is an error.
+/// TooLong comes where there was no room for all bytes, however the session ended. It tells how many
+/// were read, or how many were sent by the sends that were answered with Ok, whichever is the
+/// greater. Else Unended comes where the first answer is an error. Else NoMemory comes where a send
+/// was refused and the session came to its end all the same.
 pub fn record_service<V: Service, D: CancelDesk, S: Source, K: Sink>(
     alloc: Global,
     service: &V,
@@ -39,8 +40,8 @@ pub fn record_service<V: Service, D: CancelDesk, S: Source, K: Sink>(
     // The recording, or why there is none.
     ensures recorded { (calls : List DeskCall)
         × ((D.told desk.new).calls ≡ (D.told desk.old).calls ++ calls)
-        × IsRecorded (D.told desk.old).registration room result.0 result.1
-        (passage S.left K.written source.old sink.old source.new sink.new) calls }
+        × IsRecordedIfRoom (D.told desk.old).registration room result.0 result.1
+        (passage S.left K.written K.refused K.sent source.old sink.old source.new sink.new) calls }
 
     // The client is served as without a recorder.
     ensures serves { let round = around S.left S.reads S.faults S.origin K.written K.faults K.origin D.told in

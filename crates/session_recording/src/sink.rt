@@ -2,29 +2,29 @@
 
 ghost use Rattle.std.specs.Prelude.{◌≡◌, [], ◌∷◌, ◌++◌, length, IfSome};
 ghost use Rattle.std.proofs.Props.{props};
-ghost use Rattle.session_recording.specs.Kept.{IsSentTo, told_numbers};
+ghost use Rattle.session_recording.specs.Kept.{IsCountedBy, IsSentTo, told_numbers};
 
 use crate::keeping::FirstBytes;
 use conversation_runs::{Sink, SinkError};
 use std::snapshot::Snapshot;
 
-/// A sink of which the first bytes written are kept, as many as there is room for, and all are
-/// counted: those of the sends that it answers with Ok, up to the first that it refuses. Contracts
-/// see it as the sink that it was made over.
+/// A sink of which the first bytes are kept that the sends had which it answered with Ok, as many as
+/// there is room for, and all of these are counted. Contracts see it as the sink that it was made
+/// over.
 pub struct RecordingSink<'a, K: Sink> {
     /// The sink that is written to.
     pub sink: &'a mut K,
     /// The sink as it was before.
     pub before: Snapshot<K>,
-    /// The sink after the last send that was answered with Ok, up to the first that was refused.
-    pub until: Snapshot<K>,
-    /// What it has taken since, up to there.
+    /// What it was sent since.
     pub kept: FirstBytes,
     /// Whether a send was refused.
     pub has_refused: bool,
     pub ghost recorded: { IfSome (K.written before.value) (λ first. IsSentTo first
-        (K.written until.value) (K.written sink.now) kept.room kept.bytes.items kept.count
-        has_refused) } by { Prim.hlevel props },
+        (K.written sink.now) kept.room kept.bytes.items kept.count has_refused) } by { Prim.hlevel
+            props },
+    pub ghost agreed: { IsCountedBy kept.count has_refused (K.sent before.value) (K.sent sink.now)
+        (K.refused before.value) (K.refused sink.now) } by { Prim.hlevel props },
 }
 
 impl<'a, K: Sink> RecordingSink<'a, K> {
@@ -38,11 +38,9 @@ impl<'a, K: Sink> RecordingSink<'a, K> {
         ensures kept { result.kept ≡ room }
     {
         let before = Snapshot::of(sink);
-        let until = Snapshot::of(sink);
         RecordingSink {
             sink,
             before,
-            until,
             kept: room,
             has_refused: false,
         }
@@ -54,17 +52,19 @@ impl<'a, K: Sink> Sink for RecordingSink<'a, K> {
 
     ghost faults = { λ r. K.faults r.sink.now };
 
-    // the sink itself, its room, and what was written before
-    ghost origin = { λ r. r.sink.ghost_name ∷ r.kept.room ∷ length (K.origin r.sink.now)
+    ghost refused = { λ r. K.refused r.sink.now };
+
+    ghost sent = { λ r. K.sent r.sink.now };
+
+    // what was counted before, the sink itself, its room, and what was written before
+    ghost origin = { λ r. K.sent r.before.value ∷ K.refused r.before.value ∷ r.sink.ghost_name
+        ∷ r.kept.room ∷ length (K.origin r.sink.now)
         ∷ K.origin r.sink.now ++ told_numbers (K.written r.before.value) };
 
     fn send(&mut self, bytes: &[u8]) -> Result<(), SinkError> {
         match self.sink.send(bytes) {
             Ok(()) => {
-                if !self.has_refused {
-                    self.kept.keep(bytes);
-                    self.until = Snapshot::of(self.sink);
-                }
+                self.kept.keep(bytes);
                 Ok(())
             }
             Err(error) => {

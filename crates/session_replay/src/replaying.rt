@@ -51,6 +51,7 @@ pub fn verify(
     };
     let mut sink = BytesSink {
         bytes: Vec::new(alloc),
+        refused: 0,
     };
     let answer = serve_relations_on(alloc, &mut desk, relations, &mut source, &mut sink, turns);
     judge(answer, desk.calls(), sink.bytes.as_slice(), recording)

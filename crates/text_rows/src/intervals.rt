@@ -2,9 +2,9 @@
 //   read|STYLE|COUNT|PIECE   what the text of COUNT times PIECE stands for: months, days and
 //       microseconds, or the refusal
 //   print|MONTHS|DAYS|MICROSECONDS   the text in each style, and whether each is read back as the
-//       same interval
+//       same interval, and the normal form prints the first one too
 //   error|PART|REASON   what a refusal displays
-use pg_interval::{DecimalError, IntError, Interval, ParseError, Reason};
+use pg_interval::{DecimalError, IntError, Interval, IntervalNorm, ParseError, Reason};
 use std::alloc::{AllocError, Global};
 use std::io;
 
@@ -67,7 +67,8 @@ fn shown(alloc: Global, interval: Interval) -> Result<String, AllocError> {
     format!(in alloc; "{months} {days} {microseconds}")
 }
 
-/// The interval's text in each style, and whether each is read back.
+/// The interval's text in each style, and whether each is read back, and the normal form prints the
+/// first one too.
 fn printed(
     alloc: Global,
     months: &str,
@@ -80,7 +81,7 @@ fn printed(
         microseconds.parse::<i64>().unwrap_or(0),
     );
     let mut told = String::new(alloc);
-    let mut same = true;
+    let mut same = is_printed_by_form(alloc, interval)?;
     for style in ["postgres", "verbose", "iso", "sql"] {
         same &= put_printed(alloc, interval, style, &mut told)?;
     }
@@ -112,6 +113,13 @@ fn text_in(alloc: Global, style: &str, interval: Interval) -> Result<String, All
     } else {
         interval.to_sql(alloc)
     }
+}
+
+/// Does the interval's normal form print the interval's text in the style `postgres`?
+fn is_printed_by_form(alloc: Global, interval: Interval) -> Result<bool, AllocError> {
+    let text = interval.to_postgres(alloc)?;
+    let other = IntervalNorm::from(&interval).into_postgres(alloc)?;
+    Ok(other.as_str() == text.as_str())
 }
 
 /// Was this interval read?

@@ -2,7 +2,9 @@
 #![tactic(auto)]
 
 mod handlers;
+mod service;
 mod waiting;
 
 pub use handlers::WaitingHandlers;
+pub use service::WaitingService;
 pub use waiting::Waiting;

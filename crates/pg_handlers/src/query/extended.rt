@@ -1,10 +1,13 @@
 //! The extended query (protocol: Message Flow, Extended Query).
 
-ghost use Rattle.std.specs.Prelude.{◌≡◌, ◌≢◌, ◌≤◌, List, false, length, take, Err, Some, None, IfOk, IfErr, OnOk, OnErr, Bool};
+ghost use Rattle.std.specs.Prelude.{◌≡◌, ◌≢◌, ◌≤◌, ◌∷◌, [], List, false, length, take, Err, Some, None, IfOk, IfErr, OnOk, OnErr, Bool};
 ghost use Rattle.std.specs.Arc.{arc_value};
 ghost use Rattle.std.specs.FinMap as fin;
 ghost use Rattle.pg_messages.specs.Replies.{IsEncodable};
-ghost use Rattle.pg_client.specs.Desk.{KeepsDesk};
+ghost use Rattle.pg_client.specs.Desk.{DeskTold, KeepsDesk, after_calls};
+ghost use Rattle.pg_client.specs.declared.desk.DeskCall.TheVariants as call;
+ghost use Rattle.pg_client.specs.declared.ends.Turns.{Turns};
+ghost use Rattle.pg_handlers.specs.Beginning.{IfAnswered, IfUnready, WaitsToExecute};
 ghost use Rattle.pg_replies.specs.Replies.{row_description};
 ghost use Rattle.pg_messages.specs.declared.frontend.PgWireFrontendMessage.TheVariants as frontend;
 ghost use Rattle.pg_results.specs.Clients.{HasShortMetadata};
@@ -26,17 +29,17 @@ ghost use Rattle.pg_client.specs.Before.{IsAsBefore};
 ghost use Rattle.conversation_table.specs.Waiting.{HasWaited, IsQueryError, KeptByExecute};
 
 use crate::ends::{out_of_memory, query_out_of_memory};
-use crate::query::QueryState;
 use crate::query::describing::{
     describe_no_portal, describe_no_statement, described_portal, described_statement,
     invalid_target,
 };
-use crate::query::run::run_unstarted;
+use crate::query::run::{begin_unstarted, finish_unstarted};
 use crate::query::started::{execute_started, unstarted_portal};
 use crate::query::statements::{
     bind_checked, bind_no_statement, bind_statement, close, name_of, parse_by, statement_under,
     store_parsed,
 };
+use crate::query::{Begun, QueryState};
 use pg_client::{CancelDesk, Client, SessionError, Turns};
 use pg_messages::{
     Bind, Close, CloseComplete, Describe, Execute, Flush, Parse, PgSync, PgWireBackendMessage,
@@ -285,16 +288,64 @@ pub trait ExtendedQueryHandler {
         ensures good { IsGoodState (told self.now).parser (state_of St.maps client.new) }
         ensures waited { HasWaited (D.told desk.old) (D.told desk.new) turns.old turns.new result }
     {
+        match self.begin_execute(alloc, client, desk, message) {
+            Begun::Answered(told) => told,
+            Begun::Unready(message, query) => {
+                finish_unstarted(alloc, client, message, query, desk, turns)
+            }
+        }
+    }
+
+    /// Begins to answer Execute in any phase, as `_on_execute` does, up to the first poll of the
+    /// query. Unready says that this poll found the query unready: the desk's `start` was called,
+    /// and the client is as it was. `finish_execute` goes on from there. So replies that wait can
+    /// be sent between the two. No turn is spent, and the desk isn't asked.
+    fn begin_execute<
+        St: PortalStore<Statement = Self::Statement, Rows = Self::Rows>,
+        D: CancelDesk,
+    >(
+        &self,
+        alloc: Global,
+        client: &mut Client<St>,
+        desk: &mut D,
+        message: Execute,
+    ) -> Begun<Execute, Self::Query>
+        requires given { IsGiven (frontend.Execute message) }
+        requires good { IsGoodState (told self.now).parser (state_of St.maps client.old) }
+        ensures ok { IfAnswered result (λ done. OnOk done (IsRow
+            (λ answers. on_execute (told self.now) answers (state_of St.maps client.old) message)
+            client.old.outbox client.new.outbox (D.told desk.old).calls (D.told desk.new).calls
+            (Done (state_of St.maps client.new)))) }
+        ensures refused { IfAnswered result (λ done. IfErr done (IsRefusedRow
+            (λ answers. on_execute (told self.now) answers (state_of St.maps client.old) message)
+            client.old.outbox client.new.outbox (D.told desk.old).calls (D.told desk.new).calls
+            (state_of St.maps client.new))) }
+        ensures errors { IfAnswered result (λ done.
+            IfErr done (IsQueryError St.maps client.old client.new)) }
+        ensures kept { IfAnswered result (λ done.
+            KeptByExecute St.maps message.name client.old client.new done) }
+        ensures waited { IfAnswered result (λ done. (turns : Turns)
+            → HasWaited (D.told desk.old) (D.told desk.new) turns turns done) }
+        ensures unready { IfUnready result (λ kept waiting. (kept ≡ message)
+            × WaitsToExecute
+            (told self.now)
+            (told_one Self.Rows.items Self.CopyRows.items) (state_of St.maps client.old) message
+            (Self.Query.told waiting)) }
+        ensures started { IfUnready result (λ kept waiting.
+            D.told desk.new ≡ after_calls (D.told desk.old) (call.Start ∷ [])) }
+        ensures same { IfUnready result (λ kept waiting. client.new ≡ client.old) }
+        ensures good { IsGoodState (told self.now).parser (state_of St.maps client.new) }
+    {
         let Some(portal) = unstarted_portal(&client.store, message.name.as_str()) else {
-            return execute_started(alloc, client, message);
+            return Begun::Answered(execute_started(alloc, client, message));
         };
         let Ok(()) = desk.start() else {
-            return query_out_of_memory(message);
+            return Begun::Answered(query_out_of_memory(message));
         };
         let Ok(query) = self.do_query(alloc, &client.info, portal, message.max_rows) else {
-            return query_out_of_memory(message);
+            return Begun::Answered(query_out_of_memory(message));
         };
-        run_unstarted(alloc, client, message, query, desk, turns)
+        begin_unstarted(alloc, client, message, query)
     }
 
     /// Answers Describe: appends the description of a statement (`S`) or a portal (`P`).
@@ -360,7 +411,8 @@ pub trait ExtendedQueryHandler {
         }
     }
 
-    /// Answers Flush, which needs nothing: what waits is sent at the end of each `feed`.
+    /// Answers Flush, which needs nothing: what waits is sent at the end of each `feed`, and before
+    /// a query that was found unready is polled again.
     fn on_flush<St: PortalStore<Statement = Self::Statement, Rows = Self::Rows>>(
         &self,
         client: &mut Client<St>,
@@ -431,4 +483,49 @@ pub trait ExtendedQueryHandler {
         close(&mut client.store, message);
         Ok(())
     }
+}
+
+/// Goes on with an Execute whose query was found unready, as `_on_execute` does: a turn is
+/// spent, the desk is asked, and the query is polled again, until it is ready. Between the two
+/// only the outbox may have changed.
+pub fn finish_execute<
+    H: ExtendedQueryHandler,
+    St: PortalStore<Statement = H::Statement, Rows = H::Rows>,
+    D: CancelDesk,
+>(
+    alloc: Global,
+    handler: &H,
+    client: &mut Client<St>,
+    desk: &mut D,
+    turns: &mut Turns,
+    message: Execute,
+    query: H::Query,
+) -> Result<(), SessionError>
+    requires given { IsGiven (frontend.Execute message) }
+    requires good { IsGoodState (H.told handler.now).parser (state_of St.maps client.old) }
+    requires unready { WaitsToExecute
+        (H.told handler.now)
+        (told_one H.Rows.items H.CopyRows.items) (state_of St.maps client.old)
+        message (H.Query.told query) }
+    ensures ok { (first : DeskTold)
+        → D.told desk.old ≡ after_calls first (call.Start ∷ []) → OnOk result (IsRow
+        (λ answers.
+        on_execute (H.told handler.now) answers (state_of St.maps client.old) message)
+        client.old.outbox client.new.outbox first.calls (D.told desk.new).calls
+        (Done (state_of St.maps client.new))) }
+    ensures refused { (first : DeskTold)
+        → D.told desk.old ≡ after_calls first (call.Start ∷ []) → IfErr result (IsRefusedRow
+        (λ answers.
+        on_execute (H.told handler.now) answers (state_of St.maps client.old) message)
+        client.old.outbox client.new.outbox first.calls (D.told desk.new).calls
+        (state_of St.maps client.new)) }
+    ensures errors { IfErr result (IsQueryError St.maps client.old client.new) }
+    ensures kept { KeptByExecute St.maps message.name client.old client.new result }
+    ensures good { IsGoodState (H.told handler.now).parser (state_of St.maps client.new) }
+    ensures waited { (first : DeskTold)
+        → D.told desk.old ≡ after_calls first (call.Start ∷ [])
+        → HasWaited first (D.told desk.new) turns.old turns.new result }
+{
+    let _ = handler;
+    finish_unstarted(alloc, client, message, query, desk, turns)
 }

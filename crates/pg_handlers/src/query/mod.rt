@@ -1,6 +1,6 @@
 //! Queries: how they are polled, and how their responses are sent.
 
-ghost use Rattle.std.specs.Prelude.{◌≡◌, ◌≤◌, false, IfErr, OnErr, List};
+ghost use Rattle.std.specs.Prelude.{◌≡◌, ◌≤◌, false, suc, IfErr, OnErr, List};
 ghost use Rattle.pg_client.specs.Desk.{KeepsDesk};
 ghost use Rattle.conversation_table.specs.Handlers.{QueryTold};
 ghost use Rattle.pg_handlers.specs.Polling.{IsPolled};
@@ -44,10 +44,19 @@ pub trait QueryState: Drop {
         ensures { IsPolled (told self.old) result (told self.new) };
 }
 
-/// Waits for a query: each poll that finds it unready spends a turn, and the desk is then asked
-/// whether the query was canceled. Where it was, the error is QueryCanceled. TurnLimit comes where
-/// a poll finds it unready and no turn is left.
-#[inline(always)]
+/// What the beginning of a query came to.
+#[derive(Drop)]
+pub enum Begun<M, Q> {
+    /// The message was answered, or refused with this error.
+    Answered(Result<(), SessionError>),
+    /// The first poll found the query unready, and nothing has changed. The query waits for its next
+    /// poll, and this is what its answer needs of the message.
+    Unready(M, Q),
+}
+
+/// Waits for a query that was found unready by its last poll. For each such poll a turn is spent,
+/// and the desk is then asked whether the query was canceled. Where it was, the error is
+/// QueryCanceled. TurnLimit comes where no turn is left.
 fn wait<Q: QueryState, D: CancelDesk>(
     query: &mut Q,
     desk: &mut D,
@@ -55,21 +64,21 @@ fn wait<Q: QueryState, D: CancelDesk>(
 ) -> Result<Q::Out, SessionError>
     requires { (Q.told query.old).is_spent ≡ false }
     ensures asked { (verdict : Verdict)
-        × IsAsked (Q.told query.old).owes (D.told desk.old).calls (D.told desk.new).calls verdict
-        × IsVerdict (Q.told query.old).outcome verdict result }
+        × IsAsked (suc (Q.told query.old).owes) (D.told desk.old).calls (D.told desk.new).calls
+        verdict × IsVerdict (Q.told query.old).outcome verdict result }
     ensures waited { HasWaited (D.told desk.old) (D.told desk.new) turns.old turns.new result }
 {
     loop {
-        match query.poll() {
-            Ok(Turn::Ready(out)) => return Ok(out),
-            Ok(Turn::Unready) => {}
-            Err(_) => return Err(SessionError::Wire(PgWireError::NoMemory)),
-        }
         if !turns.spend() {
             return Err(SessionError::TurnLimit);
         }
         if desk.ask()? {
             return Err(SessionError::Wire(PgWireError::QueryCanceled));
+        }
+        match query.poll() {
+            Ok(Turn::Ready(out)) => return Ok(out),
+            Ok(Turn::Unready) => {}
+            Err(_) => return Err(SessionError::Wire(PgWireError::NoMemory)),
         }
     }
 }
@@ -83,7 +92,7 @@ pub(crate) fn wait_for<Q: QueryState, D: CancelDesk>(
 ) -> Result<Q::Out, SessionError>
     requires { (Q.told query).is_spent ≡ false }
     ensures asked { (verdict : Verdict)
-        × IsAsked (Q.told query).owes (D.told desk.old).calls (D.told desk.new).calls verdict
+        × IsAsked (suc (Q.told query).owes) (D.told desk.old).calls (D.told desk.new).calls verdict
         × IsVerdict (Q.told query).outcome verdict result }
     ensures waited { HasWaited (D.told desk.old) (D.told desk.new) turns.old turns.new result }
 {

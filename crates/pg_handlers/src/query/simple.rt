@@ -1,6 +1,6 @@
 //! The simple query (protocol: Message Flow, Simple Query).
 
-ghost use Rattle.std.specs.Prelude.{◌≡◌, ◌≢◌, ◌≤◌, ◌++◌, ◌∷◌, [], false, length, take, Err, IfOk, IfErr, OnOk, OnErr};
+ghost use Rattle.std.specs.Prelude.{◌≡◌, ◌≢◌, ◌≤◌, ◌++◌, ◌∷◌, [], false, suc, List, length, take, Result, Err, IfOk, IfErr, OnOk, OnErr};
 ghost use Rattle.pg_messages.specs.Replies.{replies_bytes};
 ghost use Rattle.pg_messages.specs.declared.backend.PgWireBackendMessage.TheVariants as server;
 ghost use Rattle.pg_messages.specs.declared.frontend.PgWireFrontendMessage.TheVariants as frontend;
@@ -9,7 +9,15 @@ ghost use Rattle.std.specs.List.{AllByRecursion};
 ghost use Rattle.pg_results.specs.Responses.{told_responses};
 ghost use Rattle.pg_results.specs.Rows.{IsAnswerableItem};
 ghost use Rattle.pg_results.specs.Texts.{IsShortText};
-ghost use Rattle.pg_client.specs.Desk.{KeepsDesk};
+ghost use Rattle.pg_client.specs.Desk.{DeskTold, KeepsDesk, after_calls};
+ghost use Rattle.pg_client.specs.Ends.{IsAnswerableError};
+ghost use Rattle.pg_client.specs.declared.desk.DeskCall.{DeskCall};
+ghost use Rattle.pg_client.specs.declared.desk.DeskCall.TheVariants as call;
+ghost use Rattle.pg_client.specs.declared.ends.Turns.{Turns};
+ghost use Rattle.pg_messages.specs.declared.simplequery.Query.{Query};
+ghost use Rattle.pg_results.specs.declared.error.PgWireError.{PgWireError};
+ghost use Rattle.pg_results.specs.declared.response.Response.{Response};
+ghost use Rattle.pg_handlers.specs.Beginning.{IfAnswered, IfUnready, IsPolledOnce, WaitsToQuery};
 ghost use Rattle.conversation_table.specs.Handlers.{SimpleTold, told_all, told_query};
 ghost use Rattle.pg_client.specs.State.{state_of};
 ghost use Rattle.pg_client.specs.Effect.{IsEffect, IsRefusedEffect, IsRow, IsRefusedRow, Done, when_ready};
@@ -17,7 +25,7 @@ ghost use Rattle.conversation_table.specs.SimpleRows.{on_query, query_polled, an
 ghost use Rattle.conversation_table.specs.Outcomes.{IsRunEnd};
 ghost use Rattle.pg_replies.specs.Replies.{ready};
 ghost use Rattle.conversation_table.specs.Good.{IsGiven, AreSendable, IsSendableResponse};
-ghost use Rattle.conversation_table.specs.Questions.{Verdict, IsAsked, IsCausedSo, HasSpent, questions_since};
+ghost use Rattle.conversation_table.specs.Questions.{Verdict, IsAsked, IsVerdict, IsCausedSo, HasSpent, questions_since};
 ghost use Rattle.pg_results.specs.declared.client.PgWireConnectionState.TheVariants as phase;
 ghost use Rattle.pg_results.specs.declared.error.PgWireError.TheVariants as wire;
 ghost use Rattle.pg_client.specs.declared.ends.SessionError.TheVariants as session;
@@ -25,7 +33,7 @@ ghost use Rattle.conversation_table.specs.Waiting.{HasWaited, IsQueryError, Only
 
 use crate::ends::{query_out_of_memory, session_outcome};
 use crate::query::respond::{send_empty_query_response, send_responses};
-use crate::query::{QueryState, wait_for};
+use crate::query::{Begun, QueryState, Turn, wait_for};
 use pg_client::{CancelDesk, Client, SessionError, Turns};
 use pg_messages::{PgList, Query, TransactionStatus};
 use pg_outbox::Outbox;
@@ -143,17 +151,108 @@ pub trait SimpleQueryHandler {
         ensures kept { OnlyAnswers client.old client.new result }
         ensures waited { HasWaited (D.told desk.old) (D.told desk.new) turns.old turns.new result }
     {
+        match self.begin_query(alloc, client, desk, query) {
+            Begun::Answered(told) => told,
+            Begun::Unready((), waiting) => {
+                let waited = wait_for(waiting, desk, turns);
+                answer_waited(alloc, client, waited)
+            }
+        }
+    }
+
+    /// Begins to answer Query in any phase, as `_on_query` does, up to the first poll of the query.
+    /// Unready says that this poll found the query unready: the desk's `start` was called, and the
+    /// client is as it was. `finish_query` goes on from there. So replies that wait can be sent
+    /// between the two. No turn is spent, and the desk isn't asked.
+    fn begin_query<St: PortalStore, D: CancelDesk>(
+        &self,
+        alloc: Global,
+        client: &mut Client<St>,
+        desk: &mut D,
+        query: Query,
+    ) -> Begun<(), Self::Query>
+        requires given { IsGiven (frontend.Query query) }
+        requires short_metadata { HasShortMetadata client.old.info }
+        ensures ok { IfAnswered result (λ done. OnOk done (IsRow
+            (λ answers. on_query (told self.now) answers (state_of St.maps client.old) query)
+            client.old.outbox client.new.outbox (D.told desk.old).calls (D.told desk.new).calls
+            (Done (state_of St.maps client.new)))) }
+        ensures refused { IfAnswered result (λ done. IfErr done (IsRefusedRow
+            (λ answers. on_query (told self.now) answers (state_of St.maps client.old) query)
+            client.old.outbox client.new.outbox (D.told desk.old).calls (D.told desk.new).calls
+            (state_of St.maps client.new))) }
+        ensures errors { IfAnswered result (λ done.
+            IfErr done (IsQueryError St.maps client.old client.new)) }
+        ensures kept { IfAnswered result (λ done. OnlyAnswers client.old client.new done) }
+        ensures waited { IfAnswered result (λ done. (turns : Turns)
+            → HasWaited (D.told desk.old) (D.told desk.new) turns turns done) }
+        ensures unready { IfUnready result (λ kept waiting. WaitsToQuery
+            (told self.now)
+            (told_all Self.Rows.items Self.CopyRows.items) (state_of St.maps client.old) query
+            (Self.Query.told waiting)) }
+        ensures started { IfUnready result (λ kept waiting.
+            D.told desk.new ≡ after_calls (D.told desk.old) (call.Start ∷ [])) }
+        ensures same { IfUnready result (λ kept waiting. client.new ≡ client.old) }
+    {
         if is_blank(query.query.as_str()) {
             drop(query);
-            return session_outcome(answer_blank(&mut client.outbox, client.info.status));
+            let blank = answer_blank(&mut client.outbox, client.info.status);
+            return Begun::Answered(session_outcome(blank));
         }
         let Ok(()) = desk.start() else {
-            return query_out_of_memory(query);
+            return Begun::Answered(query_out_of_memory(query));
         };
-        let state = self.do_query(alloc, &client.info, query.query.as_str());
+        let begun = self.do_query(alloc, &client.info, query.query.as_str());
         drop(query);
-        run_query(alloc, client, state?, desk, turns)
+        match begun {
+            Ok(state) => begin_run(alloc, client, state),
+            Err(error) => Begun::Answered(Err(SessionError::from(error))),
+        }
     }
+}
+
+/// Goes on with a Query whose query was found unready, as `_on_query` does: a turn is spent, the
+/// desk is asked, and the query is polled again, until it is ready. Between the two only the
+/// outbox may have changed.
+pub fn finish_query<H: SimpleQueryHandler, St: PortalStore, D: CancelDesk>(
+    alloc: Global,
+    handler: &H,
+    client: &mut Client<St>,
+    desk: &mut D,
+    turns: &mut Turns,
+    waiting: H::Query,
+) -> Result<(), SessionError>
+    requires unready { (query : Query) × WaitsToQuery
+        (H.told handler.now)
+        (told_all H.Rows.items H.CopyRows.items) (state_of St.maps client.old) query
+        (H.Query.told waiting) }
+    ensures ok { (query : Query) (first : DeskTold) → WaitsToQuery
+        (H.told handler.now)
+        (told_all H.Rows.items H.CopyRows.items) (state_of St.maps client.old) query
+        (H.Query.told waiting) → D.told desk.old ≡ after_calls first (call.Start ∷ [])
+        → OnOk result (IsRow
+        (λ answers. on_query (H.told handler.now) answers (state_of St.maps client.old) query)
+        client.old.outbox client.new.outbox first.calls (D.told desk.new).calls
+        (Done (state_of St.maps client.new))) }
+    ensures refused { (query : Query) (first : DeskTold) → WaitsToQuery
+        (H.told handler.now)
+        (told_all H.Rows.items H.CopyRows.items) (state_of St.maps client.old) query
+        (H.Query.told waiting) → D.told desk.old ≡ after_calls first (call.Start ∷ [])
+        → IfErr result (IsRefusedRow
+        (λ answers. on_query (H.told handler.now) answers (state_of St.maps client.old) query)
+        client.old.outbox client.new.outbox first.calls (D.told desk.new).calls
+        (state_of St.maps client.new)) }
+    ensures errors { IfErr result (IsQueryError St.maps client.old client.new) }
+    ensures kept { OnlyAnswers client.old client.new result }
+    ensures waited { (query : Query) (first : DeskTold) → WaitsToQuery
+        (H.told handler.now)
+        (told_all H.Rows.items H.CopyRows.items) (state_of St.maps client.old) query
+        (H.Query.told waiting) → D.told desk.old ≡ after_calls first (call.Start ∷ [])
+        → HasWaited first (D.told desk.new) turns.old turns.new result }
+{
+    let _ = handler;
+    let waited = wait_for(waiting, desk, turns);
+    answer_waited(alloc, client, waited)
 }
 
 /// Answers a blank Query at this transaction status.
@@ -168,33 +267,59 @@ fn answer_blank(outbox: &mut Outbox, status: TransactionStatus) -> Result<(), Pg
     Ok(())
 }
 
-/// Waits for a query that was begun, after the desk's `start`, and answers with its responses.
-/// Nothing changes before the responses.
-fn run_query<
+/// Polls a query for the first time, after the desk's `start`. Where it is ready, the Query is
+/// answered with its responses. Where it isn't, nothing changes.
+#[inline(always)]
+fn begin_run<
     St: PortalStore,
     R: RowSource,
     C: CopySource,
     Q: QueryState<Out = Result<PgList<Response<R, C>>, PgWireError>>,
-    D: CancelDesk,
->(
-    alloc: Global,
-    client: &mut Client<St>,
-    query: Q,
-    desk: &mut D,
-    turns: &mut Turns,
-) -> Result<(), SessionError>
+>(alloc: Global, client: &mut Client<St>, mut query: Q) -> Begun<(), Q>
     requires unspent { (Q.told query).is_spent ≡ false }
     requires sendable { AreSendable (told_all R.items C.items (Q.told query).outcome) }
-    ensures ran { (verdict : Verdict)
-        × IsAsked (Q.told query).owes (D.told desk.old).calls (D.told desk.new).calls verdict
+    ensures ran { IfAnswered result (λ told. (calls : List DeskCall) → (verdict : Verdict)
+        × IsAsked (Q.told query).owes calls calls verdict
         × IsRunEnd (query_polled (state_of St.maps client.old) verdict
         (told_all R.items C.items (Q.told query).outcome)) verdict
+        client.old.outbox client.new.outbox (state_of St.maps client.new) told) }
+    ensures errors { IfAnswered result (λ told.
+        IfErr told (IsQueryError St.maps client.old client.new)) }
+    ensures kept { IfAnswered result (λ told. OnlyAnswers client.old client.new told) }
+    ensures calm { IfAnswered result (λ told. (desk : DeskTold) (turns : Turns)
+        → HasWaited desk desk turns turns told) }
+    ensures unready { IfUnready result (λ kept waiting.
+        IsPolledOnce (Q.told query) (Q.told waiting)) }
+    ensures same { IfUnready result (λ kept waiting. client.new ≡ client.old) }
+{
+    match query.poll() {
+        Ok(Turn::Ready(outcome)) => Begun::Answered(answer_waited(alloc, client, Ok(outcome))),
+        Ok(Turn::Unready) => Begun::Unready((), query),
+        Err(error) => Begun::Answered(Err(SessionError::from(error))),
+    }
+}
+
+/// Answers a Query with what the wait for its query came to.
+fn answer_waited<St: PortalStore, R: RowSource, C: CopySource>(
+    alloc: Global,
+    client: &mut Client<St>,
+    waited: Result<Result<PgList<Response<R, C>>, PgWireError>, SessionError>,
+) -> Result<(), SessionError>
+    requires sendable { IfOk waited (λ outcome. AreSendable
+        (told_all R.items C.items outcome)) }
+    requires answerable { IfErr waited IsAnswerableError }
+    ensures ran { (verdict : Verdict) (outcome : Result (List (Response R C)) PgWireError)
+        → IsVerdict outcome verdict waited
+        → IsRunEnd (query_polled (state_of St.maps client.old) verdict
+        (told_all R.items C.items outcome)) verdict
         client.old.outbox client.new.outbox (state_of St.maps client.new) result }
     ensures errors { IfErr result (IsQueryError St.maps client.old client.new) }
     ensures kept { OnlyAnswers client.old client.new result }
-    ensures waited { HasWaited (D.told desk.old) (D.told desk.new) turns.old turns.new result }
+    ensures told { (desk new_desk : DeskTold) (before after : Turns)
+        → HasWaited desk new_desk before after waited
+        → HasWaited desk new_desk before after result }
 {
-    let responses = wait_for(query, desk, turns)??;
+    let responses = waited??;
     session_outcome(answer_query(alloc, client, responses))
 }
 

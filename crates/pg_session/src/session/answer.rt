@@ -271,7 +271,7 @@ impl<
     /// Closes the session at TurnLimit, or does what follows an error of a message.
     #[cold]
     #[inline(never)]
-    fn fail(
+    pub(crate) fn fail(
         &mut self,
         alloc: Global,
         error: SessionError,

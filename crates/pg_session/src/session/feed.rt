@@ -151,7 +151,7 @@ impl<
         ensures causes { HasCauses K.faults K.origin sink.old sink.new (D.told desk.old)
             (D.told desk.new) turns.old turns.new (told_or_more result) }
     {
-        let step = self.step(alloc, desk, turns);
+        let step = self.step(alloc, desk, sink, turns);
         self.told_behind(sink, step)
     }
 

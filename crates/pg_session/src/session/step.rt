@@ -6,11 +6,12 @@ ghost use Rattle.pg_results.specs.declared.client.PgWireConnectionState.TheVaria
 ghost use Rattle.conversation_table.specs.Table.{awaits, is_startup_phase};
 ghost use Rattle.conversation_runs.specs.Ready.{IsReady};
 ghost use Rattle.conversation_runs.specs.Session.{ChangesRest, told_end, unread, IsUnread};
+ghost use Rattle.conversation_runs.specs.SentFirst.{IsSentStep};
 ghost use Rattle.conversation_runs.specs.Steps.{IsStep};
 
-use crate::messages::ReadyMessage;
+use crate::messages::{QueryMessage, ReadyMessage};
 use crate::session::Session;
-use conversation_runs::{Progress, ServeError};
+use conversation_runs::{Progress, ServeError, Sink};
 use pg_handlers::{CancelDesk, EndKind, ExtendedQueryHandler, PgWireServerHandlers, Turns};
 use pg_messages::{
     Bind, Close, Describe, Execute, FrameError, Parse, PgSync, PgWireFrontendMessage, Query,
@@ -57,24 +58,26 @@ impl<
     >,
 > Session<H, St> {
     /// Takes the next message off the bytes and answers it. None says that the conversation goes on
-    /// with the next one. The replies wait to be sent.
+    /// with the next one. The replies wait to be sent. Before a query is polled again, all that
+    /// wait are sent.
     #[inline(always)]
-    pub(crate) fn step<D: CancelDesk>(
+    pub(crate) fn step<D: CancelDesk, K: Sink>(
         &mut self,
         alloc: Global,
         desk: &mut D,
+        sink: &mut K,
         turns: &mut Turns,
     ) -> Result<Option<Progress>, ServeError>
         requires { self.old.is_open ≡ true }
-        ensures { IsStep H.told self.old.rest self.old self.new (D.told desk.old)
-            (D.told desk.new) turns.old turns.new result }
+        ensures { IsSentStep K.written K.faults K.origin H.told self.old.rest self.old self.new
+            sink.old sink.new (D.told desk.old) (D.told desk.new) turns.old turns.new result }
     {
         match self.type_byte_when_ready() {
             Some(b'P') => self.step_as::<Parse, D>(alloc, desk, turns),
             Some(b'B') => self.step_as::<Bind, D>(alloc, desk, turns),
-            Some(b'E') => self.step_as::<Execute, D>(alloc, desk, turns),
+            Some(b'E') => self.step_query::<Execute, D, K>(alloc, desk, sink, turns),
             Some(b'S') => self.step_as::<PgSync, D>(alloc, desk, turns),
-            Some(kind) => self.step_by(alloc, desk, turns, kind),
+            Some(kind) => self.step_by(alloc, desk, sink, turns, kind),
             None => self.step_any(alloc, desk, turns),
         }
     }
@@ -82,20 +85,21 @@ impl<
     /// Takes a step where this type byte begins the next message and the session is ready. It is
     /// separate from `step` so that neither proof is long.
     #[inline(always)]
-    fn step_by<D: CancelDesk>(
+    fn step_by<D: CancelDesk, K: Sink>(
         &mut self,
         alloc: Global,
         desk: &mut D,
+        sink: &mut K,
         turns: &mut Turns,
         kind: u8,
     ) -> Result<Option<Progress>, ServeError>
         requires ready { IsReady self.old }
         requires kind { take 1 self.old.rest ≡ kind ∷ [] }
-        ensures { IsStep H.told self.old.rest self.old self.new (D.told desk.old)
-            (D.told desk.new) turns.old turns.new result }
+        ensures { IsSentStep K.written K.faults K.origin H.told self.old.rest self.old self.new
+            sink.old sink.new (D.told desk.old) (D.told desk.new) turns.old turns.new result }
     {
         match kind {
-            b'Q' => self.step_as::<Query, D>(alloc, desk, turns),
+            b'Q' => self.step_query::<Query, D, K>(alloc, desk, sink, turns),
             b'D' => self.step_as::<Describe, D>(alloc, desk, turns),
             b'C' => self.step_as::<Close, D>(alloc, desk, turns),
             _ => self.step_any(alloc, desk, turns),
@@ -111,6 +115,28 @@ impl<
         match self.client.info.state {
             PgWireConnectionState::ReadyForQuery => self.rest.as_slice().first().copied(),
             _ => None,
+        }
+    }
+
+    /// Takes a step by a message whose type byte is that of `M`, and whose query may be unready. The
+    /// message is read and answered as its own type.
+    #[inline(always)]
+    fn step_query<M: QueryMessage<H>, D: CancelDesk, K: Sink>(
+        &mut self,
+        alloc: Global,
+        desk: &mut D,
+        sink: &mut K,
+        turns: &mut Turns,
+    ) -> Result<Option<Progress>, ServeError>
+        requires ready { IsReady self.old }
+        requires kind { take 1 self.old.rest ≡ M.TypedMessage.kind ∷ [] }
+        ensures { IsSentStep K.written K.faults K.origin H.told self.old.rest self.old self.new
+            sink.old sink.new (D.told desk.old) (D.told desk.new) turns.old turns.new result }
+    {
+        match self.next_typed::<M>(alloc) {
+            Ok(Some(message)) => told_end(self.answer_query(alloc, desk, sink, turns, message)),
+            Ok(None) => Ok(Some(Progress::More)),
+            Err(error) => unread(error),
         }
     }
 

@@ -35,7 +35,7 @@ returns-clause-recorded g c =
       answer,
       recorded,
       was_recorded (made.pid, made.key) c.args.pid c.args.key.now c.args.relations.now answer recorded (g.S.Source.left c.args.client.now)
-          (g.S.Source.left s.new.source) c.new-2.result.items s.new.sink.bytes.items desk.calls went.0 told.0
+          (g.S.Source.left s.new.source) c.new-2.result.items s.new.sink.bytes.items s.new.sink.refused desk.calls went.0 told.0
           (g.S.Source.reads c.args.client.now) (g.S.Source.reads s.new.source) (g.S.Source.faults c.args.client.now)
           (g.S.Source.faults s.new.source) (g.K.Sink.faults c.args.out.now) (g.K.Sink.faults c.write_recorded.new.out)
           registration c.new-2.ensures.items gone heard answered went.2 cause s.ensures.complete told.2 s.ensures.faithful,

@@ -10,10 +10,18 @@ use Rattle.pg_engine.proofs.Serving.{none_served, none_went}
 use Rattle.relation_serving.proofs.CoreServing.{went_by_tables}
 use Rattle.pg_engine.proofs.Completing.{complete_at_want}
 use Rattle.relation_serving.specs.Completeness.{most_unready}
+use Rattle.session_recording.specs.Recorded.{passage}
 use Rattle.session_recording.proofs.Recordings.{faithful_answer}
 use Rattle.session_recording.proofs.recorder.record_session.Goals as goal
 
 -- ---- there was no room
+
+pub returns-in_default-clause-recorded : goal.returns-in_default-clause-recorded
+returns-in_default-clause-recorded g c = (
+  [],
+  sym (append-nil (g.D.CancelDesk.told c.args.desk.now).calls),
+  record { left = refl; written = refl; refused = refl; sent = refl; uncalled = refl },
+)
 
 pub returns-in_default-clause-went : goal.returns-in_default-clause-went
 returns-in_default-clause-went g c =
@@ -46,10 +54,10 @@ pub returns-clause-faithful : goal.returns-clause-faithful
 returns-clause-faithful g c =
     let recorded = c.record_in.ensures.recorded in
     faithful_answer c.args.relations.now (g.D.CancelDesk.told c.args.desk.now).registration c.args.room
-    c.record_in.result.0 c.record_in.result.1 (g.S.Source.left c.args.source.now)
-    (g.S.Source.left c.record_in.new.source) (g.K.Sink.written c.args.sink.now)
-    (g.K.Sink.written c.record_in.new.sink) (g.D.CancelDesk.told c.args.desk.now).calls
-    (g.D.CancelDesk.told c.record_in.new.desk).calls recorded.0
+    c.record_in.result.0 c.record_in.result.1
+    (passage g.S.Source.left g.K.Sink.written g.K.Sink.refused g.K.Sink.sent c.args.source.now c.args.sink.now c.record_in.new.source
+    c.record_in.new.sink)
+    (g.D.CancelDesk.told c.args.desk.now).calls (g.D.CancelDesk.told c.record_in.new.desk).calls recorded.0
     recorded.1 recorded.2 c.record_in.ensures.serves.taken
 
 pub returns-clause-went : goal.returns-clause-went

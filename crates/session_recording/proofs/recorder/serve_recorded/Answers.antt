@@ -3,8 +3,8 @@ use Rattle.pg_client.specs.Desk.{DeskTold, GoesOn, narrowed}
 use Rattle.pg_engine.specs.Around.{Serves, around}
 use Rattle.pg_engine.specs.Serving.{counts_of}
 use Rattle.session_recording.specs.declared.keeping.FirstBytes.{FirstBytes}
-use Rattle.session_recording.proofs.Origins.{IsSameRecorder, known_again, made_are_kept, same_head}
-use Rattle.session_recording.proofs.Recordings.{of_same, sent_again, taken_again}
+use Rattle.session_recording.proofs.Origins.{IsSameRecorder, IsSameSink, known_again, made_are_kept, same_head, sink_known_again}
+use Rattle.session_recording.proofs.Recordings.{counted_again, of_same, sent_again, taken_again}
 use Rattle.session_recording.proofs.recorder.serve_recorded.Given.{Over}
 use Rattle.session_recording.proofs.recorder.serve_recorded.Goals as goal
 
@@ -39,12 +39,14 @@ source_known g c =
 -- and so is the sink's
 sink_known : (g : Over) (c : goal.After-sink-2-1 g) → let new = c.serve-answer.new.sink in
     let old = c.new-sink.result in
-    IsSameRecorder old.sink.ghost_name new.sink.ghost_name old.kept.room new.kept.room (g.K.Sink.origin old.sink.now)
+    IsSameSink (g.K.Sink.sent old.before.value) (g.K.Sink.sent new.before.value) (g.K.Sink.refused old.before.value)
+    (g.K.Sink.refused new.before.value) old.sink.ghost_name new.sink.ghost_name old.kept.room new.kept.room (g.K.Sink.origin old.sink.now)
     (g.K.Sink.origin new.sink.now) (g.K.Sink.written old.before.value) (g.K.Sink.written new.before.value)
 sink_known g c =
     let new = c.serve-answer.new.sink in
     let old = c.new-sink.result in
-    known_again old.sink.ghost_name new.sink.ghost_name old.kept.room new.kept.room (g.K.Sink.origin old.sink.now)
+    sink_known_again (g.K.Sink.sent old.before.value) (g.K.Sink.sent new.before.value) (g.K.Sink.refused old.before.value)
+    (g.K.Sink.refused new.before.value) old.sink.ghost_name new.sink.ghost_name old.kept.room new.kept.room (g.K.Sink.origin old.sink.now)
     (g.K.Sink.origin new.sink.now) (g.K.Sink.written old.before.value) (g.K.Sink.written new.before.value)
     c.serve-answer.ensures.serves.sink
 
@@ -54,7 +56,7 @@ source_left g c =
     c.source-2-1.given.1 (sym ((source_known g c).same_name ∙ c.new-source.ensures.same_reference)) ∙ c.give_back-2.ensures
 
 sink_left : (g : Over) (c : goal.After-sink-2-1 g) → c.sink-2-1.given.0 ≡ c.serve-answer.new.sink.sink.now
-sink_left g c = c.sink-2-1.given.1 (sym ((sink_known g c).same_name ∙ c.new-sink.ensures.same_reference)) ∙ c.give_back-3.ensures
+sink_left g c = c.sink-2-1.given.1 (sym ((sink_known g c).same.same_name ∙ c.new-sink.ensures.same_reference)) ∙ c.give_back-3.ensures
 
 desk_left : (g : Over) (c : goal.After-sink-2-1 g) → c.desk-2-1.given.0 ≡ c.serve-answer.new.desk.desk.now
 desk_left g c =
@@ -73,17 +75,27 @@ returns-clause-client g c =
 pub returns-clause-replies : goal.returns-clause-replies
 returns-clause-replies g c =
     let new = c.serve-answer.new.sink in
+    let k = (sink_known g c).same in
+    sent_again (g.K.Sink.written c.args.sink.now) (g.K.Sink.written new.before.value) (g.K.Sink.written new.sink.now)
+    (g.K.Sink.written c.sink-2-1.given.0) c.args.replies.room new.kept.room new.kept.bytes.items new.kept.count new.has_refused
+    (k.same_told ∙ ap g.K.Sink.written c.new-sink.ensures.before) (k.same_room ∙ ap (λ (b : FirstBytes). b.room) c.new-sink.ensures.kept)
+    (ap g.K.Sink.written (sink_left g c)) new.recorded
+
+pub returns-clause-counted : goal.returns-clause-counted
+returns-clause-counted g c =
+    let new = c.serve-answer.new.sink in
     let k = sink_known g c in
-    sent_again (g.K.Sink.written c.args.sink.now) (g.K.Sink.written new.before.value) (g.K.Sink.written new.until.value)
-    (g.K.Sink.written new.sink.now) (g.K.Sink.written c.sink-2-1.given.0) c.args.replies.room new.kept.room new.kept.bytes.items
-    new.kept.count new.has_refused (k.same_told ∙ ap g.K.Sink.written c.new-sink.ensures.before)
-    (k.same_room ∙ ap (λ (b : FirstBytes). b.room) c.new-sink.ensures.kept) (ap g.K.Sink.written (sink_left g c)) new.recorded
+    counted_again new.kept.count new.has_refused (g.K.Sink.sent c.args.sink.now) (g.K.Sink.sent new.before.value)
+    (g.K.Sink.sent new.sink.now) (g.K.Sink.sent c.sink-2-1.given.0) (g.K.Sink.refused c.args.sink.now)
+    (g.K.Sink.refused new.before.value) (g.K.Sink.refused new.sink.now) (g.K.Sink.refused c.sink-2-1.given.0)
+    (k.same_sent ∙ ap g.K.Sink.sent c.new-sink.ensures.before) (ap g.K.Sink.sent (sink_left g c))
+    (k.same_refused ∙ ap g.K.Sink.refused c.new-sink.ensures.before) (ap g.K.Sink.refused (sink_left g c)) new.agreed
 
 pub returns-clause-client_room : goal.returns-clause-client_room
 returns-clause-client_room g c = (source_known g c).same_room ∙ ap (λ (b : FirstBytes). b.room) c.new-source.ensures.kept
 
 pub returns-clause-replies_room : goal.returns-clause-replies_room
-returns-clause-replies_room g c = (sink_known g c).same_room ∙ ap (λ (b : FirstBytes). b.room) c.new-sink.ensures.kept
+returns-clause-replies_room g c = (sink_known g c).same.same_room ∙ ap (λ (b : FirstBytes). b.room) c.new-sink.ensures.kept
 
 pub returns-clause-calls : goal.returns-clause-calls
 returns-clause-calls g c =
@@ -121,7 +133,7 @@ returns-clause-serves g c =
       reads = through.reads;
       registration = goes_on_under _ _ _ _ _ _ through.registration;
       source = (source_known g c).same_origin;
-      sink = (sink_known g c).same_origin;
+      sink = (sink_known g c).same.same_origin;
     })
 
 pub returns-clause-also : goal.returns-clause-also

@@ -1,12 +1,11 @@
-use Rattle.std.proofs.Common.{◌≡◌, ◌∙◌, ℕ, List, [], ◌++◌, Some, Result, Ok, Err, IfErr, min, length, take, drop, find, ⊎_elim, refl, sym, ap, subst, arith, rules, append-nil, take-append-drop}
+use Rattle.std.proofs.Common.{◌≡◌, ◌∙◌, ℕ, List, [], ◌++◌, Some, Result, Ok, Err, min, length, take, drop, find, ⊎_elim, refl, sym, ap, subst, arith, rules, append-nil, take-append-drop}
 use Rattle.std.specs.Prelude.{◌==◌}
-use Rattle.std.specs.Result.{OnOk, OnErr}
+use Rattle.std.specs.Result.{OnErr}
 use Rattle.std.proofs.lemmas.Bool.{cases_lt}
 use Rattle.std.proofs.lemmas.List.{take_all, length-take}
 use Rattle.conversation_runs.specs.declared.streams.SinkError.{SinkError}
 use Rattle.conversation_runs.specs.declared.streams.SinkError.TheVariants.{Failed, NoMemory}
-use Rattle.conversation_runs.specs.Streams.{GrowsByFront}
-use Rattle.pg_streams.specs.Counts.{CountsWriteFaults, is_fault, counted, raised}
+use Rattle.pg_streams.specs.Counts.{raised}
 use Rattle.pg_streams.specs.Memory.{Drain, told_to_fail, TakesAsTold}
 use Rattle.pg_streams.proofs.memory.MemorySinkSink.send.Goals as goal
 
@@ -20,41 +19,6 @@ on_error : (r : Result (Unit {0}) SinkError) (P : Type 0) → P → OnErr r P
 on_error (Ok done) P p = tt
 on_error (Err e) P p = p
 
--- an append without memory has written none of the bytes
-none_written : (r : Result (Unit {0}) SinkError) (old now first : Drain) (bytes : List ℕ) → IfErr r (λ e. (e ≡ NoMemory) × (now ≡ old))
-    → old.bytes ≡ first.bytes → OnErr r (GrowsByFront (Some first.bytes) (Some now.bytes) bytes)
-none_written (Ok done) old now first bytes h v = tt
-none_written (Err e) old now first bytes h v =
-    ([], (bytes, refl), ap Some (ap (λ (d : Drain). d.bytes) h.1 ∙ v ∙ sym (append-nil first.bytes)))
-
--- what an append keeps
-kept : (r : Result (Unit {0}) SinkError) (old now : Drain) (bytes : List ℕ)
-    → OnOk r (now ≡ record { bytes = old.bytes ++ bytes; fails = old.fails; calls = old.calls; faults = old.faults })
-    → IfErr r (λ e. (e ≡ NoMemory) × (now ≡ old)) → (now.fails ≡ old.fails) × (now.calls ≡ old.calls)
-kept (Ok done) old now bytes p q = (ap (λ (d : Drain). d.fails) p, ap (λ (d : Drain). d.calls) p)
-kept (Err e) old now bytes p q = (ap (λ (d : Drain). d.fails) q.1, ap (λ (d : Drain). d.calls) q.1)
-
--- such an append is no fault
-counted_none : (r : Result (Unit {0}) SinkError) (old now first : Drain) (bytes : List ℕ)
-    → OnOk r (now ≡ record { bytes = old.bytes ++ bytes; fails = old.fails; calls = old.calls; faults = old.faults })
-    → IfErr r (λ e. (e ≡ NoMemory) × (now ≡ old)) → old.faults ≡ first.faults → CountsWriteFaults r first.faults now.faults
-counted_none (Ok done) old now first bytes p q v =
-    let same : now.faults ≡ first.faults = ap (λ (d : Drain). d.faults) p ∙ v in record {
-      faults = same;
-      failed = λ x. absurd (subst is_failed (sym x) tt);
-      no_memory = λ x. same;
-      calm = same;
-      never_falls = omega arith;
-    }
-counted_none (Err e) old now first bytes p q v =
-    let same : now.faults ≡ first.faults = ap (λ (d : Drain). d.faults) q.1 ∙ v in record {
-      faults = same ∙ sym (ap (λ (x : SinkError). counted (is_fault (Err x)) first.faults) q.0);
-      failed = λ x. absurd (subst is_failed (sym x ∙ ap Err q.0) tt);
-      no_memory = λ x. same;
-      calm = tt;
-      never_falls = omega arith;
-    }
-
 -- the told bytes, at most all
 take_min : (n m : ℕ) (bytes : List ℕ) → m ≡ min n (length bytes) → take m bytes ≡ take n bytes
 take_min n m bytes e =
@@ -64,33 +28,11 @@ take_min n m bytes e =
 min_long : (n m : ℕ) (bytes : List ℕ) → m ≡ min n (length bytes) → m ≡ length (take m bytes)
 min_long n m bytes e = let long = length-take m bytes in omega (arith, long, e)
 
--- ---- the call is not told to fail
-
-pub returns-in-None-clause-err : goal.returns-in-None-clause-err
-returns-in-None-clause-err c =
-    none_written c.append.result _ c.append.new.self c.args.self.now c.args.bytes.now c.append.ensures.err
-    (ap (λ (d : Drain). d.bytes) c.self.view_is)
-
-pub returns-in-None-clause-fails : goal.returns-in-None-clause-fails
-returns-in-None-clause-fails c =
-    (kept c.append.result _ c.append.new.self c.args.bytes.now c.append.ensures.ok c.append.ensures.err).0
-    ∙ ap (λ (d : Drain). d.fails) c.self.view_is
-
-pub returns-in-None-clause-calls : goal.returns-in-None-clause-calls
-returns-in-None-clause-calls c =
-    (kept c.append.result _ c.append.new.self c.args.bytes.now c.append.ensures.ok c.append.ensures.err).1
-    ∙ c.saturating_add-self-inside.ensures ∙ ap (λ (d : Drain). raised d.calls) c.self.view_is
-
-pub returns-in-None-clause-counted : goal.returns-in-None-clause-counted
-returns-in-None-clause-counted c =
-    counted_none c.append.result _ c.append.new.self c.args.self.now c.args.bytes.now c.append.ensures.ok c.append.ensures.err
-    (ap (λ (d : Drain). d.faults) c.self.view_is)
-
 -- ---- the call is told to fail, and memory is wanting
 
 pub returns-in_err-append-in-Some-clause-err : goal.returns-in_err-append-in-Some-clause-err
 returns-in_err-append-in-Some-clause-err c =
-    on_error c.from_residual.result _ (
+    on_error c.from_residual-in_err-append-in-Some.result _ (
       [],
       (c.args.bytes.now, refl),
       ap Some

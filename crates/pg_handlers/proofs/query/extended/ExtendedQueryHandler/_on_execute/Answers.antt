@@ -1,102 +1,93 @@
-use Rattle.std.proofs.Common.{◌≡◌, false, w32, IfSome, Some, refl, ap, sym, subst, ◌∙◌}
-use Rattle.std.specs.FinMap as fin
-use Rattle.std.proofs.lemmas.Int.{to_z-of_z}
-use Rattle.pg_portal.specs.Told.{portal_of, value_under}
-use Rattle.conversation_table.specs.Executing.{is_unstarted}
-use Rattle.conversation_table.specs.Good.{HasGoodTag}
+use Rattle.std.proofs.Common.{List, Result, sym, subst}
+use Rattle.std.specs.Prelude.{IfErr, OnOk}
+use Rattle.pg_messages.specs.declared.extendedquery.Execute.{Execute}
+use Rattle.pg_messages.specs.declared.frontend.PgWireFrontendMessage.TheVariants as frontend
+use Rattle.pg_portal.specs.Maps.{Maps}
+use Rattle.pg_client.specs.declared.client.Client.{Client}
+use Rattle.pg_client.specs.declared.desk.DeskCall.{DeskCall}
+use Rattle.pg_client.specs.declared.ends.SessionError.{SessionError}
+use Rattle.pg_client.specs.Effect.{Done, IsRefusedRow, IsRow}
 use Rattle.pg_client.specs.State.{state_of}
-use Rattle.pg_client.proofs.Desks.{keeps_none}
-use Rattle.conversation_table.proofs.Executed.{none_begun, none_started, query_executed, returned}
-use Rattle.conversation_table.proofs.QueryErrors.{query_answerable, query_error, query_limit}
-use Rattle.conversation_table.proofs.Starting.{started_there, unstarted_under}
+use Rattle.conversation_table.specs.ExecuteRow.{on_execute}
+use Rattle.conversation_table.specs.Good.{IsGiven}
+use Rattle.conversation_table.specs.Handlers.{ExtendedTold, told_one}
+use Rattle.conversation_table.specs.Waiting.{IsQueryError, KeptByExecute}
+use Rattle.conversation_table.proofs.Starting.{unstarted_under}
+use Rattle.pg_handlers.specs.Beginning.{WaitsToExecute}
+use Rattle.pg_handlers.proofs.Beginning.{run_executed}
 use Rattle.pg_handlers.proofs.query.extended.ExtendedQueryHandler._on_execute.Goals as goal
 
-pub execute_started-requires-clause-started : goal.execute_started-requires-clause-started
-execute_started-requires-clause-started g c =
-    let s = state_of g.St.PortalStore.maps c.args.client.now in let m = c.args.message in
-    started_there (λ p. is_unstarted p.stage ≡ false) (λ p. HasGoodTag p.stage) (value_under (fin.get s.portals m.name))
-    (subst (λ n. IfSome (value_under (fin.get s.portals n)) (λ p. is_unstarted p.stage ≡ false)) c.as_str.ensures
-    (c.unstarted_portal.ensures.none c.in_default.is)) (λ p found. (c.requires.good.portals m.name p found).tag)
+-- what an Execute did to a client
+record IsDone {S St : Type 0} (h : ExtendedTold S) (maps : St → Maps S) (new : Client St) (calls new_calls : List DeskCall)
+    (result : Result (Unit {0}) SessionError) (old : Client St) (m : Execute) : Type 0 where
+  pub ok : OnOk result (IsRow (λ answers. on_execute h answers (state_of maps old) m) old.outbox new.outbox calls new_calls
+      (Done (state_of maps new)))
+  pub refused : IfErr result (IsRefusedRow (λ answers. on_execute h answers (state_of maps old) m) old.outbox new.outbox calls
+      new_calls (state_of maps new))
+  pub errors : IfErr result (IsQueryError maps old new)
+  pub kept : KeptByExecute maps m.name old new result
 
-pub returns-in_default : goal.returns-in_default
-returns-in_default g c =
-    let e = c.execute_started.ensures (g.Self.ExtendedQueryHandler.told c.args.self.now) (g.D.CancelDesk.told c.args.desk.now)
-    c.args.turns.now c.requires.good in
+pub returns-in-Answered : goal.returns-in-Answered
+returns-in-Answered g c =
+    let e = c.in-Answered.ensures in
     record {
-      ok = e.0;
-      refused = e.1;
-      errors = query_error g.St.PortalStore.maps c.args.client.now c.execute_started.new.client c.execute_started.result e.2 e.4;
-      kept = record { info = e.5; left = e.6; kept = e.7 };
-      good = e.8;
-      waited = record { caused = e.3; turns = e.9; bounded = λ h. h; keeps = keeps_none _ };
-    }
-
-pub returns-in_default-start : goal.returns-in_default-start
-returns-in_default-start g c =
-    let R = g.Self.Rows.RowSource.items in let maps = g.St.PortalStore.maps in let told = g.D.CancelDesk.told in
-    let s = state_of maps c.args.client.now in let h = g.Self.ExtendedQueryHandler.told c.args.self.now in let m = c.args.message in
-    let x = returned c.query_out_of_memory.ensures (none_started h m s s c.args.client.now.outbox (told c.args.desk.now)
-    (told c.start.new.self) c.args.turns.now c.requires.good refl c.in_default-start.ensures.err) in
-    record {
-      ok = x.ok;
-      refused = x.refused;
-      errors = query_error maps c.args.client.now c.args.client.now c.query_out_of_memory.result x.answerable x.limit;
-      kept = record { info = x.info; left = x.left; kept = x.kept };
-      good = x.good;
-      waited = record { caused = x.caused; turns = x.spent; bounded = x.bounded; keeps = x.keeps };
-    }
-
-pub do_query-requires-clause-good : goal.do_query-requires-clause-good
-do_query-requires-clause-good g c = c.requires.good.portals c.as_str.result.now _ c.in-Some.ensures.found
-
-pub returns-in_default-do_query : goal.returns-in_default-do_query
-returns-in_default-do_query g c =
-    let R = g.Self.Rows.RowSource.items in let maps = g.St.PortalStore.maps in let told = g.D.CancelDesk.told in
-    let s = state_of maps c.args.client.now in let h = g.Self.ExtendedQueryHandler.told c.args.self.now in let m = c.args.message in
-    let p = portal_of R c.in-Some.portal.now in
-    let found : value_under (fin.get s.portals m.name) ≡ Some p =
-    ap (λ n. value_under (fin.get s.portals n)) (sym c.as_str.ensures) ∙ c.in-Some.ensures.found in
-    let x = returned c.query_out_of_memory-in_default-do_query.ensures (none_begun h m s p found c.in-Some.ensures.unstarted c.requires.good
-    (told c.args.desk.now) (told c.start.new.self) c.in-Ok.ensures.ok c.args.turns.now c.args.client.now.outbox s refl) in
-    record {
-      ok = x.ok;
-      refused = x.refused;
-      errors = query_error maps c.args.client.now c.args.client.now c.query_out_of_memory-in_default-do_query.result x.answerable x.limit;
-      kept = record { info = x.info; left = x.left; kept = x.kept };
-      good = x.good;
-      waited = record { caused = x.caused; turns = x.spent; bounded = x.bounded; keeps = x.keeps };
-    }
-
-pub run_unstarted-requires-clause-portal : goal.run_unstarted-requires-clause-portal
-run_unstarted-requires-clause-portal g c =
-    let R = g.Self.Rows.RowSource.items in let maps = g.St.PortalStore.maps in let told = g.D.CancelDesk.told in
-    let s = state_of maps c.args.client.now in let h = g.Self.ExtendedQueryHandler.told c.args.self.now in let m = c.args.message in
-    let p = portal_of R c.in-Some.portal.now in
-    let found : value_under (fin.get s.portals m.name) ≡ Some p =
-    ap (λ n. value_under (fin.get s.portals n)) (sym c.as_str.ensures) ∙ c.in-Some.ensures.found in
-    unstarted_under (maps c.args.client.now.store) m.name p found c.in-Some.ensures.unstarted
-
-pub returns : goal.returns
-returns g c =
-    let R = g.Self.Rows.RowSource.items in let maps = g.St.PortalStore.maps in let told = g.D.CancelDesk.told in
-    let s = state_of maps c.args.client.now in let h = g.Self.ExtendedQueryHandler.told c.args.self.now in let m = c.args.message in
-    let p = portal_of R c.in-Some.portal.now in
-    let found : value_under (fin.get s.portals m.name) ≡ Some p =
-    ap (λ n. value_under (fin.get s.portals n)) (sym c.as_str.ensures) ∙ c.in-Some.ensures.found in
-    let limit_is = to_z-of_z w32 m.max_rows c.requires.given.1.carries.2.max_rows in
-    let e = c.run_unstarted.ensures in let now = c.args.client.now in let r = c.run_unstarted in
-    let x = query_executed h m s p found c.in-Some.ensures.unstarted c.requires.good (told c.args.desk.now) (told c.start.new.self)
-    c.in-Ok.ensures.ok c.args.turns.now c.args.client.now.outbox _
-    (c.in-Ok-do_query.ensures.told ∙ ap (h.query s.info p.bound) limit_is)
-    (state_of maps c.run_unstarted.new.client) c.run_unstarted.new.client.outbox (told c.run_unstarted.new.desk) c.run_unstarted.new.turns
-    c.run_unstarted.result e.ran (query_answerable maps now r.new.client r.result e.errors) e.waited.caused
-    (query_limit maps now r.new.client r.result e.errors) e.kept.info e.kept.left e.kept.kept e.good e.waited.turns e.waited.bounded
-    e.waited.keeps in
-    record {
-      ok = x.ok;
-      refused = x.refused;
+      ok = e.ok;
+      refused = e.refused;
       errors = e.errors;
       kept = e.kept;
-      good = x.good;
-      waited = record { caused = x.caused; turns = x.spent; bounded = x.bounded; keeps = x.keeps };
+      good = e.good;
+      waited = e.waited c.args.turns.now;
+    }
+
+pub finish_unstarted-requires-clause-given : goal.finish_unstarted-requires-clause-given
+finish_unstarted-requires-clause-given g c =
+    subst (λ m. IsGiven (frontend.Execute m)) (sym c.in-Unready.ensures.unready.0) c.requires.given
+
+pub finish_unstarted-requires-clause-portal : goal.finish_unstarted-requires-clause-portal
+finish_unstarted-requires-clause-portal g c =
+    let u = c.in-Unready.ensures in
+    let h = g.Self.ExtendedQueryHandler.told c.args.self.now in
+    let one = told_one g.Self.Rows.RowSource.items g.Self.CopyRows.CopySource.items in
+    let query = g.Self.Query.QueryState.told c.in-Unready.query in
+    let w = subst (λ m. WaitsToExecute h one (state_of g.St.PortalStore.maps c.begin_execute.new.client) m query) (sym u.unready.0)
+    (subst (λ k. WaitsToExecute h one (state_of g.St.PortalStore.maps k) c.args.message query) (sym u.same) u.unready.1) in
+    unstarted_under (g.St.PortalStore.maps c.begin_execute.new.client.store) c.in-Unready.message.name w.portal w.found w.fresh
+
+pub finish_unstarted-requires-clause-unspent : goal.finish_unstarted-requires-clause-unspent
+finish_unstarted-requires-clause-unspent g c = c.in-Unready.ensures.unready.1.unready.unspent
+
+pub finish_unstarted-requires-clause-sendable : goal.finish_unstarted-requires-clause-sendable
+finish_unstarted-requires-clause-sendable g c = c.in-Unready.ensures.unready.1.sendable
+
+pub returns-in-Unready : goal.returns-in-Unready
+returns-in-Unready g c =
+    let maps = g.St.PortalStore.maps in
+    let told = g.D.CancelDesk.told in
+    let first = told c.args.desk.now in
+    let u = c.in-Unready.ensures in
+    let h = g.Self.ExtendedQueryHandler.told c.args.self.now in
+    let one = told_one g.Self.Rows.RowSource.items g.Self.CopyRows.CopySource.items in
+    let query = g.Self.Query.QueryState.told c.in-Unready.query in
+    let w = subst (λ m. WaitsToExecute h one (state_of g.St.PortalStore.maps c.begin_execute.new.client) m query) (sym u.unready.0)
+    (subst (λ k. WaitsToExecute h one (state_of g.St.PortalStore.maps k) c.args.message query) (sym u.same) u.unready.1) in
+    let r = c.finish_unstarted in let e = r.ensures in
+    let last = told r.new.desk in
+    let d = run_executed h maps c.begin_execute.new.client r.new.client c.in-Unready.message w.portal w.found w.fresh u.good _
+    (sym w.unready.polled) first (told c.begin_execute.new.desk) last u.started c.args.turns.now r.new.turns r.result e.ran e.errors
+    e.kept e.good e.waited in
+    let x : IsDone h maps r.new.client first.calls last.calls r.result c.begin_execute.new.client c.in-Unready.message = record {
+      ok = d.ok;
+      refused = d.refused;
+      errors = e.errors;
+      kept = e.kept;
+    } in
+    let y = subst (λ m. IsDone h maps r.new.client first.calls last.calls r.result c.args.client.now m) u.unready.0
+    (subst (λ k. IsDone h maps r.new.client first.calls last.calls r.result k c.in-Unready.message) u.same x) in
+    record {
+      ok = y.ok;
+      refused = y.refused;
+      errors = y.errors;
+      kept = y.kept;
+      good = e.good h.parser u.good;
+      waited = record { caused = d.caused; turns = d.spent; bounded = d.bounded; keeps = d.keeps };
     }

@@ -1,80 +1,78 @@
-use Rattle.std.proofs.Common.{◌≡◌, false, true, Err, refl, ap, sym, subst, ◌∙◌}
-use Rattle.std.proofs.lemmas.Result.{err_from_is_err_and}
-use Rattle.pg_results.specs.Texts.{is_blank}
+use Rattle.std.proofs.Common.{List, Result, sym, subst}
+use Rattle.std.specs.Prelude.{IfErr, OnOk}
+use Rattle.pg_messages.specs.declared.simplequery.Query.{Query}
+use Rattle.pg_portal.specs.Maps.{Maps}
+use Rattle.pg_client.specs.declared.client.Client.{Client}
+use Rattle.pg_client.specs.declared.desk.DeskCall.{DeskCall}
+use Rattle.pg_client.specs.declared.ends.SessionError.{SessionError}
+use Rattle.pg_client.specs.Effect.{Done, IsRefusedRow, IsRow}
 use Rattle.pg_client.specs.State.{state_of}
+use Rattle.conversation_table.specs.Handlers.{SimpleTold, told_all}
+use Rattle.conversation_table.specs.SimpleRows.{on_query}
+use Rattle.conversation_table.specs.Waiting.{IsQueryError, OnlyAnswers}
+use Rattle.pg_handlers.specs.Beginning.{WaitsToQuery}
 use Rattle.conversation_table.specs.Good.{AreSendable}
-use Rattle.conversation_table.proofs.Queried.{blank_queried, none_begun, none_started, query_ran, returned}
-use Rattle.conversation_table.proofs.QueryErrors.{query_answerable, query_error, query_limit}
+use Rattle.pg_handlers.proofs.Beginning.{run_queried}
+use Rattle.pg_handlers.proofs.Waiting.{verdict_err, verdict_ok}
 use Rattle.pg_handlers.proofs.query.simple.SimpleQueryHandler._on_query.Goals as goal
 
-pub returns-then-is_blank : goal.returns-then-is_blank
-returns-then-is_blank g c =
-    let maps = g.St.PortalStore.maps in let told = g.D.CancelDesk.told in let s = state_of maps c.args.client.now in
-    let h = g.Self.SimpleQueryHandler.told c.args.self.now in let m = c.args.query in let out = c.args.client.now.outbox in
-    let blank : is_blank m.query ≡ true = ap is_blank (sym c.as_str.ensures) ∙ sym c.is_blank.ensures ∙ c.if-is_blank.true in
-    let e = c.answer_blank.ensures in
-    let x = returned c.session_outcome.ensures (blank_queried h m s out c.answer_blank.new.outbox (told c.args.desk.now) c.args.turns.now
-    c.answer_blank.result blank e.ok e.refused e.kept) in
-    record {
-      ok = x.ok;
-      refused = x.refused;
-      errors = query_error maps c.args.client.now (record c.args.client.now { outbox = c.answer_blank.new.outbox }) c.session_outcome.result x.answerable x.limit;
-      kept = record { info = x.info; kept = x.kept; store = refl; metadata = refl };
-      waited = record { caused = x.caused; turns = x.spent; bounded = x.bounded; keeps = x.keeps };
-    }
+-- what a Query did to a client
+record IsDone {S St : Type 0} (h : SimpleTold) (maps : St → Maps S) (new : Client St) (calls new_calls : List DeskCall)
+    (result : Result (Unit {0}) SessionError) (m : Query) (old : Client St) : Type 0 where
+  pub ok : OnOk result (IsRow (λ answers. on_query h answers (state_of maps old) m) old.outbox new.outbox calls new_calls
+      (Done (state_of maps new)))
+  pub refused : IfErr result (IsRefusedRow (λ answers. on_query h answers (state_of maps old) m) old.outbox new.outbox calls
+      new_calls (state_of maps new))
+  pub errors : IfErr result (IsQueryError maps old new)
+  pub kept : OnlyAnswers old new result
 
-pub returns-in_default : goal.returns-in_default
-returns-in_default g c =
-    let maps = g.St.PortalStore.maps in let told = g.D.CancelDesk.told in let s = state_of maps c.args.client.now in
-    let h = g.Self.SimpleQueryHandler.told c.args.self.now in let m = c.args.query in let out = c.args.client.now.outbox in
-    let x = returned c.query_out_of_memory.ensures (none_started h m s out (told c.args.desk.now) (told c.start.new.self) c.args.turns.now
-    c.in_default.ensures.err) in
-    record {
-      ok = x.ok;
-      refused = x.refused;
-      errors = query_error maps c.args.client.now c.args.client.now c.query_out_of_memory.result x.answerable x.limit;
-      kept = record { info = x.info; kept = x.kept; store = refl; metadata = refl };
-      waited = record { caused = x.caused; turns = x.spent; bounded = x.bounded; keeps = x.keeps };
-    }
+pub returns-in-Answered : goal.returns-in-Answered
+returns-in-Answered g c =
+    let e = c.in-Answered.ensures in
+    record { ok = e.ok; refused = e.refused; errors = e.errors; kept = e.kept; waited = e.waited c.args.turns.now }
 
-pub returns-in_err-state : goal.returns-in_err-state
-returns-in_err-state g c =
-    let u = err_from_is_err_and c.from_residual.result c.from_residual.ensures.1 in
-    let maps = g.St.PortalStore.maps in let told = g.D.CancelDesk.told in let s = state_of maps c.args.client.now in
-    let h = g.Self.SimpleQueryHandler.told c.args.self.now in let m = c.args.query in let out = c.args.client.now.outbox in
-    let busy : is_blank m.query ≡ false = ap is_blank (sym c.as_str.ensures) ∙ sym c.is_blank.ensures ∙ c.if-is_blank.false in
-    let x = returned (u.1 ∙ ap Err u.2) (none_begun h m s busy (told c.args.desk.now) (told c.start.new.self) c.in-Ok.ensures.ok
-    c.args.turns.now out) in
-    record {
-      ok = x.ok;
-      refused = x.refused;
-      errors = query_error maps c.args.client.now c.args.client.now c.from_residual.result x.answerable x.limit;
-      kept = record { info = x.info; kept = x.kept; store = refl; metadata = refl };
-      waited = record { caused = x.caused; turns = x.spent; bounded = x.bounded; keeps = x.keeps };
-    }
+pub wait_for-waited-requires : goal.wait_for-waited-requires
+wait_for-waited-requires g c = c.in-Unready.ensures.unready.unready.unspent
 
-pub run_query-requires-clause-sendable : goal.run_query-requires-clause-sendable
-run_query-requires-clause-sendable g c =
-    let h = g.Self.SimpleQueryHandler.told c.args.self.now in let info = c.args.client.now.info in
-    subst AreSendable (sym (ap (λ t. t.outcome) (c.in_ok-state.ensures.told ∙ ap (h info) c.as_str-2.ensures)))
-    (subst (λ text. AreSendable (h info text).outcome) c.as_str-2.ensures c.in_ok-state.ensures.sendable)
+pub answer_waited-requires-clause-sendable : goal.answer_waited-requires-clause-sendable
+answer_waited-requires-clause-sendable g c =
+    let x = c.wait_for-waited.ensures in
+    verdict_ok (g.Self.Query.QueryState.told c.in-Unready.waiting).outcome x.asked.0
+    (λ out. AreSendable (told_all g.Self.Rows.RowSource.items g.Self.CopyRows.CopySource.items out)) c.wait_for-waited.result x.asked.2
+    c.in-Unready.ensures.unready.sendable
 
-pub returns : goal.returns
-returns g c =
-    let maps = g.St.PortalStore.maps in let told = g.D.CancelDesk.told in let s = state_of maps c.args.client.now in
-    let h = g.Self.SimpleQueryHandler.told c.args.self.now in let m = c.args.query in let out = c.args.client.now.outbox in
-    let busy : is_blank m.query ≡ false = ap is_blank (sym c.as_str.ensures) ∙ sym c.is_blank.ensures ∙ c.if-is_blank.false in
-    let e = c.run_query.ensures in
-    let x = query_ran h m s busy (told c.args.desk.now) (told c.start.new.self) c.in-Ok.ensures.ok c.args.turns.now out
-    (state_of maps c.run_query.new.client) c.run_query.new.client.outbox (told c.run_query.new.desk) c.run_query.new.turns
-    c.run_query.result _ (c.in_ok-state.ensures.told ∙ ap (h s.info) c.as_str-2.ensures) e.ran
-    (query_answerable maps c.args.client.now c.run_query.new.client c.run_query.result e.errors) e.waited.caused
-    (query_limit maps c.args.client.now c.run_query.new.client c.run_query.result e.errors) e.kept.info e.kept.kept
-    e.waited.turns e.waited.bounded e.waited.keeps in
+pub answer_waited-requires-clause-answerable : goal.answer_waited-requires-clause-answerable
+answer_waited-requires-clause-answerable g c =
+    let x = c.wait_for-waited.ensures in
+    verdict_err (g.Self.Query.QueryState.told c.in-Unready.waiting).outcome x.asked.0 c.wait_for-waited.result x.asked.2
+
+pub returns-in-Unready : goal.returns-in-Unready
+returns-in-Unready g c =
+    let maps = g.St.PortalStore.maps in let told = g.D.CancelDesk.told in
+    let h = g.Self.SimpleQueryHandler.told c.args.self.now in
+    let all = told_all g.Self.Rows.RowSource.items g.Self.CopyRows.CopySource.items in
+    let first = told c.args.desk.now in
+    let u = c.in-Unready.ensures in
+    let query = g.Self.Query.QueryState.told c.in-Unready.waiting in
+    let m = c.args.query in
+    let is = subst (λ k. WaitsToQuery h all (state_of maps k) m query) (sym u.same) u.unready in
+    let w = c.wait_for-waited in let x = w.ensures in let r = c.answer_waited in let a = r.ensures in
+    let begun = told c.begin_query.new.desk in
+    let last = told w.new.desk in
+    let waited = a.told begun last c.args.turns.now w.new.turns x.waited in
+    let d = run_queried h maps c.begin_query.new.client r.new.client m is.busy _ (sym is.unready.polled) first begun last u.started
+    c.args.turns.now w.new.turns r.result (x.asked.0, x.asked.1, a.ran x.asked.0 query.outcome x.asked.2) a.errors a.kept waited in
+    let z : IsDone h maps r.new.client first.calls last.calls r.result m c.begin_query.new.client = record {
+      ok = d.ok;
+      refused = d.refused;
+      errors = a.errors;
+      kept = a.kept;
+    } in
+    let y = subst (IsDone h maps r.new.client first.calls last.calls r.result m) u.same z in
     record {
-      ok = x.ok;
-      refused = x.refused;
-      errors = e.errors;
-      kept = e.kept;
-      waited = record { caused = x.caused; turns = x.spent; bounded = x.bounded; keeps = x.keeps };
+      ok = y.ok;
+      refused = y.refused;
+      errors = y.errors;
+      kept = y.kept;
+      waited = record { caused = d.caused; turns = d.spent; bounded = d.bounded; keeps = d.keeps };
     }

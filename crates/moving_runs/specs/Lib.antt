@@ -1,0 +1,4 @@
+pub mod Sheets
+pub mod Meeting
+pub mod Steps
+pub mod Unchanging
