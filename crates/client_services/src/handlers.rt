@@ -16,7 +16,7 @@ pub struct HandlerService<H> {
 }
 
 impl<H: PgWireServerHandlers> Service for HandlerService<H> {
-    ghost use Rattle.std.specs.Prelude.{ℕ};
+    ghost use Rattle.std.specs.Prelude.{ℕ, ◌≡◌};
     ghost use Rattle.std.specs.Arc.{arc_value};
     ghost use Rattle.pg_client.specs.State.{State, first_state};
     ghost use Rattle.conversation_runs.specs.Session.{whole_rules};
@@ -26,10 +26,10 @@ impl<H: PgWireServerHandlers> Service for HandlerService<H> {
 
     ghost rules = { λ s. whole_rules (H.told (arc_value s.handlers)) };
 
-    ghost first = { λ s pid key. first_state pid key };
+    ghost begins = { λ s pid key at. at ≡ first_state pid key };
 
     // with turns enough for the polls that a query owes at most, the client is served to the end
-    ghost also = { λ s turns answer left before after.
+    ghost also = { λ s first turns answer left new_left calls before after.
         (most : ℕ) → OweAtMost (H.told (arc_value s.handlers)) most
         → IsCompleteWithin most turns answer left before after };
 

@@ -1,11 +1,9 @@
 //! What clients are served, without the clients.
 
-ghost use Rattle.std.specs.Prelude.{ℕ, ℤ, List, Option, Result};
-ghost use Rattle.pg_client.specs.declared.ends.EndKind.{EndKind};
-ghost use Rattle.conversation_runs.specs.declared.ends.ServeError.{ServeError};
+ghost use Rattle.std.specs.Prelude.{ℤ, List, ℕ};
+ghost use Rattle.client_services.specs.Served.{IsServedBy, Promise};
 ghost use Rattle.conversation_runs.specs.Run.{Rules};
-ghost use Rattle.pg_engine.specs.Around.{Serves, around};
-ghost use Rattle.pg_engine.specs.Serving.{Counts, counts_of};
+ghost use Rattle.pg_engine.specs.Around.{around};
 
 use pg_session::{CancelDesk, EndKind, ServeError, Sink, Source};
 use std::alloc::Global;
@@ -17,11 +15,10 @@ pub trait Service: Drop {
     ghost At: { Type 0 };
     // the rules that its conversations go by
     ghost rules: { Self → Rules At };
-    // where the conversation with a client of this pid and this key begins
-    ghost first: { Self → ℤ → List ℕ → At };
-    // what it promises beside, of so many turns, of how it ended, of the bytes that the source had to give, and of the
-    // counts before and after
-    ghost also: { Self → ℕ → Result EndKind ServeError → Option (List ℕ) → Counts → Counts → Type 0 };
+    // where the conversation with a client of this pid and this key may begin
+    ghost begins: { Self → ℤ → List ℕ → At → Type 0 };
+    // what it promises beside
+    ghost also: { Self → Promise At };
 
     /// Serves the client whom the desk knows: takes its bytes from the source, and writes the
     /// answer to the sink, until the conversation ends. A read that gives at least one byte or the
@@ -40,12 +37,9 @@ pub trait Service: Drop {
         sink: &mut K,
         turn_limit: u64,
     ) -> Result<EndKind, ServeError>
-        ensures serves { let round = around S.left S.reads S.faults S.origin K.written K.faults K.origin D.told in
-            Serves (rules self.now)
-            (first self.now (D.told desk.old).registration.0 (D.told desk.old).registration.1)
-            turn_limit result
-            (round source.old sink.old desk.old) (round source.new sink.new desk.new) }
-        ensures also { also self.now turn_limit result (S.left source.old)
-            (counts_of S.reads S.faults K.faults source.old sink.old)
-            (counts_of S.reads S.faults K.faults source.new sink.new) };
+        ensures { let round = around S.left S.reads S.faults S.origin K.written K.faults K.origin D.told in
+            IsServedBy (rules self.now)
+            (begins self.now (D.told desk.old).registration.0 (D.told desk.old).registration.1)
+            (also self.now) turn_limit result
+            (round source.old sink.old desk.old) (round source.new sink.new desk.new) };
 }

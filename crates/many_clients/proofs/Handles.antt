@@ -8,6 +8,7 @@ use mathlib.Core.List.{IsPrefix}
 use Rattle.pg_cancel.specs.declared.entries.Entry.{Entry}
 use Rattle.pg_cancel.specs.Connections.{Connection, Witness}
 use Rattle.pg_cancel.proofs.Prefixes.{prefix_trans}
+use Rattle.pg_client.specs.declared.desk.DeskCall.{DeskCall}
 use Rattle.pg_client.specs.declared.ends.EndKind.{EndKind}
 use Rattle.conversation_table.specs.Questions.{questions, questions_since}
 use Rattle.conversation_runs.specs.declared.ends.ServeError.{ServeError}
@@ -31,6 +32,16 @@ left_behind h h' made note same seen mine gone =
 -- the calls of a session behind those before are those that it made
 calls_since : (mine mine' made : List Entry) → mine' ≡ mine ++ made → desk_calls mine' ≡ desk_calls mine ++ desk_calls made
 calls_since mine mine' made is = ap desk_calls is ∙ flat_map-append (λ (e : Entry). desk_call e.call e.answer) mine made
+
+-- what a connection's calls have grown by
+pub made_since : (mine mine' : List Entry) → IsPrefix mine mine' → (made : List Entry) × (mine' ≡ mine ++ made)
+made_since mine mine' grown = (grown.0, sym grown.1)
+
+-- the calls of a session are those that the connection made
+pub calls_are_made : (mine mine' made : List Entry) (calls : List DeskCall) → mine' ≡ mine ++ made
+    → desk_calls mine' ≡ desk_calls mine ++ calls → calls ≡ desk_calls made
+calls_are_made mine mine' made calls is grown =
+    append_cancel_left (desk_calls mine) calls (desk_calls made) (sym grown ∙ calls_since mine mine' made is)
 
 -- the questions of a session are those of the calls that it made
 pub since_made : (mine mine' made : List Entry) → mine' ≡ mine ++ made

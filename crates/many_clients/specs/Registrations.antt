@@ -6,6 +6,7 @@ use Rattle.pg_cancel.specs.declared.entries.RegistryCall.TheVariants.{Register, 
 use Rattle.pg_cancel.specs.declared.entries.RegistryAnswer.TheVariants.{Registered, Done}
 use Rattle.pg_cancel.specs.Connections.{Connection, Witness, calls_of, entry}
 use Rattle.pg_cancel.specs.LegalHistory.{IsLegal}
+use Rattle.client_services.specs.Served.{Promise}
 use Rattle.pg_client.specs.declared.ends.EndKind.{EndKind}
 use Rattle.conversation_table.specs.Questions.{questions}
 use Rattle.conversation_runs.specs.declared.ends.ServeError.{ServeError}
@@ -42,22 +43,21 @@ pub record HasConversedBy {T : Type 0} (rules : Rules T) (first : T) (h : Connec
   pub never_falls : FaultsNeverFall before after
   pub gave : ReadsGaveBytes left new_left before.reads after.reads
 
--- A client was served and has left, as above, and what is promised beside holds.
-pub record HasBeenServed {T : Type 0} (rules : Rules T) (first : T)
-    (also : ℕ → Result EndKind ServeError → Option (List ℕ) → Counts → Counts → Type 0) (h : Connection) (turns : ℕ)
+-- A client was served and has left, as above, from a state on where the service's conversations may begin; and what the service promises
+-- beside holds.
+pub record HasBeenServed {T : Type 0} (rules : Rules T) (begins : T → Type 0) (also : Promise T) (h : Connection) (turns : ℕ)
     (answer : Result EndKind ServeError) (left new_left old new : Option (List ℕ)) (before after : Counts) (note : Witness) : Type 0 where
+  pub first : T
+  pub begun : begins first
   pub conversed : HasConversedBy rules first h turns answer left new_left old new before after note
-  pub promised : also turns answer left before after
+  pub promised : also first turns answer left new_left (desk_calls conversed.made) before after
 
--- A client's service was run to its end by these rules from this state on: the client was served, and its registration then ended,
--- whatever came of it; and what is promised beside holds.
-pub record HasRunBy {T : Type 0} (rules : Rules T) (first : T)
-    (also : ℕ → Result EndKind ServeError → Option (List ℕ) → Counts → Counts → Type 0) (h : Connection) (turns : ℕ)
+-- A client's service was run to its end: the client was served, and its registration then ended, whatever came of it.
+pub record HasRunBy {T : Type 0} (rules : Rules T) (begins : T → Type 0) (also : Promise T) (h : Connection) (turns : ℕ)
     (left old : Option (List ℕ)) (before : Counts) : Type 0 where
   pub answer : Result EndKind ServeError
   pub new_left : Option (List ℕ)
   pub new : Option (List ℕ)
   pub after : Counts
   pub note : Witness
-  pub conversed : HasConversedBy rules first h turns answer left new_left old new before after note
-  pub promised : also turns answer left before after
+  pub served : HasBeenServed rules begins also h turns answer left new_left old new before after note

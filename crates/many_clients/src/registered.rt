@@ -1,9 +1,11 @@
 //! A client is served through its connection to the shared registry.
 
 ghost use Rattle.std.specs.Prelude.{◌≡◌, []};
+ghost use mathlib.Core.List.{IsPrefix};
+ghost use Rattle.client_services.specs.Served.{IsServedBy};
 ghost use Rattle.conversation_table.specs.Questions.{questions_since};
-ghost use Rattle.pg_serve.specs.Desk.{StaysUsable, WentByCalls, desk_calls, desk_of};
-ghost use Rattle.pg_engine.specs.Around.{Serves, around};
+ghost use Rattle.pg_serve.specs.Desk.{StaysUsable, desk_calls, desk_of};
+ghost use Rattle.pg_engine.specs.Around.{around};
 ghost use Rattle.pg_engine.specs.Serving.{HasCause, counts_of};
 ghost use Rattle.many_clients.specs.Registrations.{IsLeftBehind};
 
@@ -32,26 +34,21 @@ pub fn serve_registered<R: Wait, V: Service, S: Source, K: Sink>(
 ) -> Result<EndKind, ServeError>
     requires issued { handle.old.issuer ≡ manager.now }
 
-    // The bytes written and the connection's new calls are the answer of the service's rules to the
-    // client's bytes, however cut.
-    ensures went { WentByCalls (V.rules service.now) (V.first service.now handle.old.pid handle.old.key)
-        handle.old.mine handle.new.mine result
-        (S.left source.old) (S.left source.new) (K.written sink.old) (K.written sink.new) }
+    // The client was served by the service: the bytes written and the connection's new calls are the
+    // answer of its rules to the client's bytes, however cut; nothing behind the end was read, each
+    // read that was counted gave a byte, no count of faults fell, none rose at Ok; the source and the
+    // sink are the same. And what the service promises beside holds.
+    ensures served { let round = around S.left S.reads S.faults S.origin K.written K.faults K.origin desk_of in
+        IsServedBy (V.rules service.now) (V.begins service.now handle.old.pid handle.old.key)
+        (V.also service.now) turn_limit result
+        (round source.old sink.old handle.old) (round source.new sink.new handle.new) }
     ensures cause { HasCause result turn_limit
         (questions_since (desk_calls handle.old.mine) (desk_calls handle.new.mine))
         (counts_of S.reads S.faults K.faults source.old sink.old)
         (counts_of S.reads S.faults K.faults source.new sink.new) }
 
-    // What the service promises beside.
-    ensures also { V.also service.now turn_limit result (S.left source.old)
-        (counts_of S.reads S.faults K.faults source.old sink.old)
-        (counts_of S.reads S.faults K.faults source.new sink.new) }
-
-    // Nothing behind the end was read, each read that was counted gave a byte, no count of faults
-    // fell, none rose at Ok, and the source and the sink are the same.
-    ensures serves { let round = around S.left S.reads S.faults S.origin K.written K.faults K.origin desk_of in
-        Serves (V.rules service.now) (V.first service.now handle.old.pid handle.old.key) turn_limit result
-        (round source.old sink.old handle.old) (round source.new sink.new handle.new) }
+    // The connection's own calls have only grown.
+    ensures grown { IsPrefix handle.old.mine handle.new.mine }
 
     // What the connection has seen of the one history goes on, and is legal, and has just its own
     // calls under its number.
@@ -77,11 +74,9 @@ fn serve_at_desk<R: Wait, V: Service, S: Source, K: Sink>(
     turn_limit: u64,
 ) -> Result<EndKind, ServeError>
     requires issued { handle.old.issuer ≡ manager.now }
-    ensures also { V.also service.now turn_limit result (S.left source.old)
-        (counts_of S.reads S.faults K.faults source.old sink.old)
-        (counts_of S.reads S.faults K.faults source.new sink.new) }
-    ensures serves { let round = around S.left S.reads S.faults S.origin K.written K.faults K.origin desk_of in
-        Serves (V.rules service.now) (V.first service.now handle.old.pid handle.old.key) turn_limit result
+    ensures { let round = around S.left S.reads S.faults S.origin K.written K.faults K.origin desk_of in
+        IsServedBy (V.rules service.now) (V.begins service.now handle.old.pid handle.old.key)
+        (V.also service.now) turn_limit result
         (round source.old sink.old handle.old) (round source.new sink.new handle.new) }
 {
     let mut desk = HandleDesk {

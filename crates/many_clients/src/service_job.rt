@@ -2,7 +2,7 @@
 
 ghost use Rattle.std.specs.Prelude.{◌≡◌};
 ghost use Rattle.pg_engine.specs.Serving.{counts_of};
-ghost use Rattle.many_clients.specs.Registrations.{HasBeenServed, HasConversedBy};
+ghost use Rattle.many_clients.specs.Registrations.{HasBeenServed};
 
 use crate::admitted::AdmittedClient;
 use crate::registered::{leave, serve_registered};
@@ -29,17 +29,13 @@ impl<V: Service, S: Source, K: Sink> ServiceJob<V, S, K> {
     /// back what the service came to, the source, the sink, and what the connection had seen of the
     /// registry's history. Where memory ran out before the registration was ended, it stays.
     pub fn run<R: Wait>(self, rt: &R, alloc: Global) -> (Result<EndKind, ServeError>, S, K, Note)
-        ensures conversed { HasConversedBy (V.rules self.service)
-            (V.first self.service self.client.handle.pid self.client.handle.key)
-            self.client.handle self.client.turn_limit result.0
+        ensures { HasBeenServed (V.rules self.service)
+            (V.begins self.service self.client.handle.pid self.client.handle.key)
+            (V.also self.service) self.client.handle self.client.turn_limit result.0
             (S.left self.client.source) (S.left result.1)
             (K.written self.client.sink) (K.written result.2)
             (counts_of S.reads S.faults K.faults self.client.source self.client.sink)
             (counts_of S.reads S.faults K.faults result.1 result.2) result.3 }
-        ensures also { V.also self.service self.client.turn_limit result.0
-            (S.left self.client.source)
-            (counts_of S.reads S.faults K.faults self.client.source self.client.sink)
-            (counts_of S.reads S.faults K.faults result.1 result.2) }
     {
         let ServiceJob { service, client } = self;
         let AdmittedClient {
@@ -76,7 +72,7 @@ fn serve_and_leave<R: Wait, V: Service, S: Source, K: Sink>(
     turn_limit: u64,
 ) -> (Result<EndKind, ServeError>, Note)
     requires issued { handle.issuer ≡ manager.now }
-    ensures { HasBeenServed (V.rules service.now) (V.first service.now handle.pid handle.key)
+    ensures { HasBeenServed (V.rules service.now) (V.begins service.now handle.pid handle.key)
         (V.also service.now) handle turn_limit result.0
         (S.left source.old) (S.left source.new) (K.written sink.old) (K.written sink.new)
         (counts_of S.reads S.faults K.faults source.old sink.old)
@@ -107,7 +103,7 @@ impl<V: Service, S: Source + Drop, K: Sink + Drop> ThreadJob for ServiceJob<V, S
     ghost use Rattle.many_clients.specs.Registrations.{HasRunBy};
 
     ghost has_run = { λ job _. HasRunBy (V.rules job.service)
-        (V.first job.service job.client.handle.pid job.client.handle.key) (V.also job.service)
+        (V.begins job.service job.client.handle.pid job.client.handle.key) (V.also job.service)
         job.client.handle job.client.turn_limit (S.left job.client.source)
         (K.written job.client.sink)
         (counts_of S.reads S.faults K.faults job.client.source job.client.sink) };

@@ -26,7 +26,7 @@ impl<V: Service, B: Keeper> Service for RecordedService<V, B> {
 
     ghost rules = { λ s. V.rules s.inner };
 
-    ghost first = { λ s. V.first s.inner };
+    ghost begins = { λ s. V.begins s.inner };
 
     ghost also = { λ s. V.also s.inner };
 

@@ -16,6 +16,7 @@ pub struct SharedRelations {
 }
 
 impl Service for SharedRelations {
+    ghost use Rattle.std.specs.Prelude.{◌≡◌};
     ghost use Rattle.std.specs.Arc.{arc_value};
     ghost use Rattle.pg_client.specs.State.{State, first_state};
     ghost use Rattle.conversation_runs.specs.Session.{whole_rules};
@@ -27,9 +28,9 @@ impl Service for SharedRelations {
 
     ghost rules = { λ s. whole_rules (relation_handlers (arc_value s.relations)) };
 
-    ghost first = { λ s pid key. first_state pid key };
+    ghost begins = { λ s pid key at. at ≡ first_state pid key };
 
-    ghost also = { λ s turns answer left before after.
+    ghost also = { λ s first turns answer left new_left calls before after.
         IsComplete (arc_value s.relations) turns answer left before after };
 
     fn serve<D: CancelDesk, S: Source, K: Sink>(

@@ -15,6 +15,7 @@ pub struct LentRelations<'r> {
 }
 
 impl Service for LentRelations<'_> {
+    ghost use Rattle.std.specs.Prelude.{◌≡◌};
     ghost use Rattle.pg_client.specs.State.{State, first_state};
     ghost use Rattle.conversation_runs.specs.Session.{whole_rules};
     ghost use Rattle.relation_serving.specs.Completeness.{IsComplete};
@@ -25,9 +26,9 @@ impl Service for LentRelations<'_> {
 
     ghost rules = { λ s. whole_rules (relation_handlers s.relations.now) };
 
-    ghost first = { λ s pid key. first_state pid key };
+    ghost begins = { λ s pid key at. at ≡ first_state pid key };
 
-    ghost also = { λ s turns answer left before after.
+    ghost also = { λ s first turns answer left new_left calls before after.
         IsComplete s.relations.now turns answer left before after };
 
     fn serve<D: CancelDesk, S: Source, K: Sink>(

@@ -1,9 +1,10 @@
 //! A session over relations is served and recorded.
 
 ghost use Rattle.std.specs.Prelude.{◌≡◌, ◌++◌, List, IfOk, IfErr, IfSome};
+ghost use Rattle.client_services.specs.Served.{IsServedBy};
 ghost use Rattle.conversation_table.specs.Questions.{questions_since};
 ghost use Rattle.pg_client.specs.declared.desk.DeskCall.{DeskCall};
-ghost use Rattle.pg_engine.specs.Around.{Serves, ServesSession, around};
+ghost use Rattle.pg_engine.specs.Around.{ServesSession, around};
 ghost use Rattle.pg_engine.specs.Serving.{HasCause, counts_of};
 ghost use Rattle.relation_serving.specs.Completeness.{IsComplete};
 ghost use Rattle.relation_serving.specs.Serving.{WentByTables};
@@ -123,14 +124,11 @@ pub(crate) fn record_in<V: Service, D: CancelDesk, S: Source, K: Sink>(
         × ((D.told desk.new).calls ≡ (D.told desk.old).calls ++ calls)
         × IsRecorded (D.told desk.old).registration room result.0 result.1
         (passage S.left K.written K.refused K.sent source.old sink.old source.new sink.new) calls }
-    ensures serves { let round = around S.left S.reads S.faults S.origin K.written K.faults K.origin D.told in
-        Serves (V.rules service.now)
-        (V.first service.now (D.told desk.old).registration.0 (D.told desk.old).registration.1)
-        turn_limit result.0
+    ensures served { let round = around S.left S.reads S.faults S.origin K.written K.faults K.origin D.told in
+        IsServedBy (V.rules service.now)
+        (V.begins service.now (D.told desk.old).registration.0 (D.told desk.old).registration.1)
+        (V.also service.now) turn_limit result.0
         (round source.old sink.old desk.old) (round source.new sink.new desk.new) }
-    ensures also { V.also service.now turn_limit result.0 (S.left source.old)
-        (counts_of S.reads S.faults K.faults source.old sink.old)
-        (counts_of S.reads S.faults K.faults source.new sink.new) }
 {
     let Space {
         pid,
@@ -175,14 +173,11 @@ fn serve_recorded<V: Service, D: CancelDesk, S: Source, K: Sink>(
     ensures client_room { result.1.client.room ≡ client.room }
     ensures replies_room { result.1.replies.room ≡ replies.room }
     ensures calls { (D.told desk.new).calls ≡ (D.told desk.old).calls ++ result.1.calls.items }
-    ensures serves { let round = around S.left S.reads S.faults S.origin K.written K.faults K.origin D.told in
-        Serves (V.rules service.now)
-        (V.first service.now (D.told desk.old).registration.0 (D.told desk.old).registration.1)
-        turn_limit result.0
+    ensures served { let round = around S.left S.reads S.faults S.origin K.written K.faults K.origin D.told in
+        IsServedBy (V.rules service.now)
+        (V.begins service.now (D.told desk.old).registration.0 (D.told desk.old).registration.1)
+        (V.also service.now) turn_limit result.0
         (round source.old sink.old desk.old) (round source.new sink.new desk.new) }
-    ensures also { V.also service.now turn_limit result.0 (S.left source.old)
-        (counts_of S.reads S.faults K.faults source.old sink.old)
-        (counts_of S.reads S.faults K.faults source.new sink.new) }
 {
     let mut desk = RecordingDesk::new(alloc, desk);
     let mut source = RecordingSource::new(source, client);

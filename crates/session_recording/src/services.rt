@@ -1,9 +1,9 @@
 //! A client is served by any service and recorded.
 
 ghost use Rattle.std.specs.Prelude.{◌≡◌, ◌++◌, List};
+ghost use Rattle.client_services.specs.Served.{IsServedBy};
 ghost use Rattle.pg_client.specs.declared.desk.DeskCall.{DeskCall};
-ghost use Rattle.pg_engine.specs.Around.{Serves, around};
-ghost use Rattle.pg_engine.specs.Serving.{counts_of};
+ghost use Rattle.pg_engine.specs.Around.{around};
 ghost use Rattle.session_recording.specs.Recorded.{IsRecordedIfRoom, passage};
 
 use crate::error::RecordError;
@@ -44,14 +44,11 @@ pub fn record_service<V: Service, D: CancelDesk, S: Source, K: Sink>(
         (passage S.left K.written K.refused K.sent source.old sink.old source.new sink.new) calls }
 
     // The client is served as without a recorder.
-    ensures serves { let round = around S.left S.reads S.faults S.origin K.written K.faults K.origin D.told in
-        Serves (V.rules service.now)
-        (V.first service.now (D.told desk.old).registration.0 (D.told desk.old).registration.1)
-        turn_limit result.0
+    ensures served { let round = around S.left S.reads S.faults S.origin K.written K.faults K.origin D.told in
+        IsServedBy (V.rules service.now)
+        (V.begins service.now (D.told desk.old).registration.0 (D.told desk.old).registration.1)
+        (V.also service.now) turn_limit result.0
         (round source.old sink.old desk.old) (round source.new sink.new desk.new) }
-    ensures also { V.also service.now turn_limit result.0 (S.left source.old)
-        (counts_of S.reads S.faults K.faults source.old sink.old)
-        (counts_of S.reads S.faults K.faults source.new sink.new) }
 {
     let Ok(space) = reserve(alloc, room, desk) else {
         let answer = service.serve(alloc, desk, source, sink, turn_limit);

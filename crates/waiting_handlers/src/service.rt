@@ -22,7 +22,7 @@ impl<C: Clock + Copy + Drop> Service for WaitingService<C> {
 
     ghost rules = { λ s. ⟦<HandlerService<WaitingHandlers<C>> as Service>⟧.rules s.handlers };
 
-    ghost first = { λ s. ⟦<HandlerService<WaitingHandlers<C>> as Service>⟧.first s.handlers };
+    ghost begins = { λ s. ⟦<HandlerService<WaitingHandlers<C>> as Service>⟧.begins s.handlers };
 
     ghost also = { λ s. ⟦<HandlerService<WaitingHandlers<C>> as Service>⟧.also s.handlers };
 

@@ -1,10 +1,10 @@
-use Rattle.std.proofs.Common.{[], append-nil, refl, sym}
+use Rattle.std.proofs.Common.{[], append-nil, refl, subst, sym}
 use Rattle.pg_client.specs.State.{first_state}
 use Rattle.conversation_runs.specs.Session.{whole_rules}
 use Rattle.conversation_runs.specs.declared.ends.ServeError.TheVariants as fault
 use Rattle.relation_tables.specs.RelationHandler.{relation_handlers}
 use Rattle.relation_handlers.proofs.EvenRows.{even}
-use Rattle.pg_engine.specs.Around.{around}
+use Rattle.pg_engine.specs.Around.{Serves, ServesSession, around}
 use Rattle.pg_engine.specs.Serving.{counts_of}
 use Rattle.pg_engine.proofs.Serving.{none_served, none_went}
 use Rattle.relation_serving.proofs.CoreServing.{went_by_tables}
@@ -12,6 +12,7 @@ use Rattle.pg_engine.proofs.Completing.{complete_at_want}
 use Rattle.relation_serving.specs.Completeness.{most_unready}
 use Rattle.session_recording.specs.Recorded.{passage}
 use Rattle.session_recording.proofs.Recordings.{faithful_answer}
+use Rattle.session_recording.proofs.recorder.record_session.Given.{Over}
 use Rattle.session_recording.proofs.recorder.record_session.Goals as goal
 
 -- ---- there was no room
@@ -50,6 +51,18 @@ returns-in_default-clause-serves g c =
 
 -- ---- the session was served
 
+-- as a session over these relations serves
+served : (g : Over) (c : goal.After-record_in g) → let round = around g.S.Source.left g.S.Source.reads g.S.Source.faults g.S.Source.origin
+    g.K.Sink.written g.K.Sink.faults g.K.Sink.origin g.D.CancelDesk.told in
+    ServesSession (relation_handlers c.args.relations.now) c.args.turn_limit c.record_in.result.0
+    (round c.args.source.now c.args.sink.now c.args.desk.now) (round c.record_in.new.source c.record_in.new.sink c.record_in.new.desk)
+served g c =
+    let round = around g.S.Source.left g.S.Source.reads g.S.Source.faults g.S.Source.origin g.K.Sink.written g.K.Sink.faults
+    g.K.Sink.origin g.D.CancelDesk.told in
+    subst (λ at. Serves (whole_rules (relation_handlers c.args.relations.now)) at c.args.turn_limit c.record_in.result.0
+    (round c.args.source.now c.args.sink.now c.args.desk.now) (round c.record_in.new.source c.record_in.new.sink c.record_in.new.desk))
+    c.record_in.ensures.served.begun c.record_in.ensures.served.serves
+
 pub returns-clause-faithful : goal.returns-clause-faithful
 returns-clause-faithful g c =
     let recorded = c.record_in.ensures.recorded in
@@ -58,13 +71,13 @@ returns-clause-faithful g c =
     (passage g.S.Source.left g.K.Sink.written g.K.Sink.refused g.K.Sink.sent c.args.source.now c.args.sink.now c.record_in.new.source
     c.record_in.new.sink)
     (g.D.CancelDesk.told c.args.desk.now).calls (g.D.CancelDesk.told c.record_in.new.desk).calls recorded.0
-    recorded.1 recorded.2 c.record_in.ensures.serves.taken
+    recorded.1 recorded.2 (served g c).taken
 
 pub returns-clause-went : goal.returns-clause-went
 returns-clause-went g c =
     let relations = c.args.relations.now in
     let registration = (g.D.CancelDesk.told c.args.desk.now).registration in
-    let went = c.record_in.ensures.serves.went in (
+    let went = (served g c).went in (
       went.0,
       went.1,
       went_by_tables relations registration c.relations-valid.ensures.within (even relations c.relations-valid.ensures.valid)
@@ -73,10 +86,10 @@ returns-clause-went g c =
     )
 
 pub returns-clause-cause : goal.returns-clause-cause
-returns-clause-cause g c = c.record_in.ensures.serves.cause
+returns-clause-cause g c = (served g c).cause
 
 pub returns-clause-complete : goal.returns-clause-complete
-returns-clause-complete g c = c.record_in.ensures.also
+returns-clause-complete g c = c.record_in.ensures.served.promised
 
 pub returns-clause-serves : goal.returns-clause-serves
-returns-clause-serves g c = c.record_in.ensures.serves
+returns-clause-serves g c = served g c

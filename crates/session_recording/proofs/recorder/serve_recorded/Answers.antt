@@ -1,7 +1,7 @@
 use Rattle.std.proofs.Common.{◌≡◌, ◌∙◌, ◌∷◌, ◌++◌, ℕ, ap, drop, sym}
 use Rattle.pg_client.specs.Desk.{DeskTold, GoesOn, narrowed}
-use Rattle.pg_engine.specs.Around.{Serves, around}
-use Rattle.pg_engine.specs.Serving.{counts_of}
+use Rattle.client_services.specs.Served.{IsServedBy}
+use Rattle.pg_engine.specs.Around.{around}
 use Rattle.session_recording.specs.declared.keeping.FirstBytes.{FirstBytes}
 use Rattle.session_recording.proofs.Origins.{IsSameRecorder, IsSameSink, known_again, made_are_kept, same_head, sink_known_again}
 use Rattle.session_recording.proofs.Recordings.{counted_again, of_same, sent_again, taken_again}
@@ -110,37 +110,36 @@ returns-clause-calls g c =
     ∙ ap (λ k. (g.D.CancelDesk.told c.args.desk.now).calls ++ k) kept
 
 -- the client was served as without recorders
-pub returns-clause-serves : goal.returns-clause-serves
-returns-clause-serves g c =
+pub returns-clause-served : goal.returns-clause-served
+returns-clause-served g c =
     let service = c.args.service.now in
-    let through = c.serve-answer.ensures.serves in
+    let under = c.serve-answer.ensures in
+    let through = under.serves in
     let told = g.D.CancelDesk.told in
     let round = around g.S.Source.left g.S.Source.reads g.S.Source.faults g.S.Source.origin g.K.Sink.written g.K.Sink.faults
     g.K.Sink.origin told in
-    of_same (λ d e s t k l. Serves (g.V.Service.rules service)
-    (g.V.Service.first service (told d).registration.0 (told d).registration.1) c.args.turn_limit c.serve-answer.result (round s k d)
-    (round t l e))
+    of_same (λ d e s t k l. IsServedBy (g.V.Service.rules service)
+    (g.V.Service.begins service (told d).registration.0 (told d).registration.1) (g.V.Service.also service) c.args.turn_limit
+    c.serve-answer.result (round s k d) (round t l e))
     c.new-desk.result.desk.now c.args.desk.now c.serve-answer.new.desk.desk.now c.desk-2-1.given.0 c.new-source.result.source.now
     c.args.source.now c.serve-answer.new.source.source.now c.source-2-1.given.0 c.new-sink.result.sink.now c.args.sink.now
     c.serve-answer.new.sink.sink.now c.sink-2-1.given.0 c.new-desk.ensures.desk (sym (desk_left g c)) c.new-source.ensures.source
     (sym (source_left g c)) c.new-sink.ensures.sink (sym (sink_left g c)) (record {
-      went = through.went;
-      cause = through.cause;
-      last = through.last;
-      taken = through.taken;
-      calm = through.calm;
-      never_falls = through.never_falls;
-      reads = through.reads;
-      registration = goes_on_under _ _ _ _ _ _ through.registration;
-      source = (source_known g c).same_origin;
-      sink = (sink_known g c).same.same_origin;
+      first = under.first;
+      begun = under.begun;
+      serves = record {
+        went = through.went;
+        cause = through.cause;
+        last = through.last;
+        taken = through.taken;
+        calm = through.calm;
+        never_falls = through.never_falls;
+        reads = through.reads;
+        registration = goes_on_under _ _ _ _ _ _ through.registration;
+        source = (source_known g c).same_origin;
+        sink = (sink_known g c).same.same_origin;
+      };
+      calls = under.calls;
+      grown = under.grown;
+      promised = under.promised;
     })
-
-pub returns-clause-also : goal.returns-clause-also
-returns-clause-also g c =
-    of_same (λ d e s t k l. g.V.Service.also c.args.service.now c.args.turn_limit c.serve-answer.result (g.S.Source.left s)
-    (counts_of g.S.Source.reads g.S.Source.faults g.K.Sink.faults s k) (counts_of g.S.Source.reads g.S.Source.faults g.K.Sink.faults t l))
-    c.new-desk.result.desk.now c.args.desk.now c.serve-answer.new.desk.desk.now c.desk-2-1.given.0 c.new-source.result.source.now
-    c.args.source.now c.serve-answer.new.source.source.now c.source-2-1.given.0 c.new-sink.result.sink.now c.args.sink.now
-    c.serve-answer.new.sink.sink.now c.sink-2-1.given.0 c.new-desk.ensures.desk (sym (desk_left g c)) c.new-source.ensures.source
-    (sym (source_left g c)) c.new-sink.ensures.sink (sym (sink_left g c)) c.serve-answer.ensures.also

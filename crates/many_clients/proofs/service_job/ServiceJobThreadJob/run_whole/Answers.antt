@@ -10,6 +10,5 @@ returns g c =
       new = g.K.Sink.written told.2;
       after = counts_of g.S.Source.reads g.S.Source.faults g.K.Sink.faults told.1 told.2;
       note = told.3;
-      conversed = c.run.ensures.conversed;
-      promised = c.run.ensures.also;
+      served = c.run.ensures;
     }
