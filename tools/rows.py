@@ -25,6 +25,8 @@ MADE = [
     ("styles_server", "stdin", "styles_rows.py client", None, "whole"),
     ("styles_server", "stdout", "styles_rows.py replies", None, "whole"),
     ("text_rows", "stdout", "read_intervals.py", "stdin", "read"),
+    ("waiting_server", "stdin", "waiting_rows.py client", None, "whole"),
+    ("waiting_server", "stdout", "waiting_rows.py replies", None, "whole"),
     ("word_rows", "stdin", "word_rows.py", None, "whole"),
 ]
 
