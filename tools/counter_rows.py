@@ -7,11 +7,12 @@ Each NEXT that is asked where a query is awaited is answered by the next number,
 """
 import struct
 
-from cursor_rows import IDLE, frame, tag
+from cursor_rows import IDLE, frame, tag, written
 from cursor_serving_rows import GREETING, HEAD, START, TERMINATE, error, everywhere, parse, query, show, sync
 
 NUMBER = frame(b"T", struct.pack(">h", 1) + b"number\0" + struct.pack(">ihihih", 0, 0, 1700, -1, -1, 0))
 REFUSED = error("42601", "the only query is NEXT, as a simple query")
+CHUNK = 65536
 
 
 def told(number):
@@ -25,6 +26,16 @@ def numbers(*counted):
 
 
 NEXT = numbers(1)[0][0]
+
+
+def long_client(name, length, how, end):
+    """A client of so many bytes, which asks what is refused, and then blank queries."""
+    refused, blank = query("x", [REFUSED, IDLE]), query("", [frame(b"I"), IDLE], "")
+    left = length - len(START[0]) - len(TERMINATE[0])
+    blanks = next(count for count in range(7) if (left - count * len(blank[0])) % len(refused[0]) == 0)
+    others = (left - blanks * len(blank[0])) // len(refused[0])
+    print(f"{name} | {how} | {START[0].hex()} {others}*{refused[0].hex()} {blanks}*{blank[0].hex()} {TERMINATE[0].hex()} | {end} |"
+          f" {written(GREETING).hex()} {others}*{written(refused[1]).hex()} {blanks}*{written(blank[1]).hex()} |{' start' * others}")
 
 
 def main():
@@ -50,6 +61,18 @@ def main():
          client=START[0] + 2 * NEXT, end="ReadFault")
     show("a write fails", [START, *numbers(1, 2)], f"reads {len(START[0])} {len(NEXT)} {len(NEXT)}; write_fails 1 7; front", end="WriteFault")
     show("a bad frame behind two numbers", [START, *numbers(1, 2)], client=START[0] + 2 * NEXT + b"?\0\0\0\4", end="BadFrame")
+    print()
+    print("# ---- a read asks for 8,192 bytes")
+    long_client("16,384 bytes in two turns", 16_384, "turns 2", "Terminate")
+    long_client("16,385 bytes: two turns are too few", 16_385, "turns 2", "TurnLimit")
+    print()
+    print("# ---- when replies are sent: at the end of a read, and where 65,536 bytes or more wait")
+    show("a read is answered by one write", [START, *numbers(1, 2), TERMINATE], "write_fails 1 0")
+    refused = query("x", [REFUSED, IDLE])
+    before = (CHUNK - len(written(GREETING)) - 1) // len(written(refused[1])) + 1
+    print("a chunk is sent before the end of the read | write_fails 2 0 |"
+          f" {START[0].hex()} {before + 10}*{refused[0].hex()} {TERMINATE[0].hex()} | WriteFault |"
+          f" {written(GREETING).hex()} {before}*{written(refused[1]).hex()} |{' start' * (before + 10)}")
 
 
 main()

@@ -1,7 +1,8 @@
 #!/usr/bin/env python3
 """Tries the edits that the gate leaves out, which stand under a crate's held/, and records what refused each.
 
-usage: held_edits.py [--list] [CRATE..], with no name for all crates that hold edits; --list tells what is left to try
+usage: held_edits.py [--list] [CRATE[/EDIT]..], with no name for all crates that hold edits, CRATE/EDIT for one edit of a crate; --list
+tells what is left to try
 
 tools/held_edits.tsv is the record, a line for each edit that was refused: its crate, its name, the checksum of what it was tried on,
 and what refused it. The checksum is of src/, specs/ and proofs/ of the crate and of all below, their lines of crates.txt, the kit's
@@ -98,15 +99,20 @@ def is_committed():
 
 def main():
     names = [word for word in sys.argv[1:] if word != "--list"]
-    if unknown := [name for name in names if name not in holding()]:
-        stop(f"{unknown[0]} holds no edits")
+    there = {crate: {edit.stem for edit in edits_of(crate)} for crate in holding()}
+    wanted = {}
+    for name in names or there:
+        crate, slash, edit = name.partition("/")
+        if crate not in there or slash and edit not in there[crate]:
+            stop(f"{name} is held by no crate" if slash else f"{name} holds no edits")
+        wanted.setdefault(crate, set()).update({edit} if slash else there[crate])
     if "--list" not in sys.argv and not is_committed():
         stop("crates/ has changes that aren't committed: edits are tried on what is committed")
     found, passed, failed = recorded(), 0, 0
-    for crate in names or holding():
+    for crate, edits in wanted.items():
         base = sum_of_crate(crate)
-        sums = {edit.stem: sum_of(base, edit) for edit in edits_of(crate)}
-        left = [edit for edit in edits_of(crate) if found.get((crate, edit.stem), ("",))[0] != sums[edit.stem]]
+        sums = {edit.stem: sum_of(base, edit) for edit in edits_of(crate) if edit.stem in edits}
+        left = [edit for edit in edits_of(crate) if edit.stem in sums and found.get((crate, edit.stem), ("",))[0] != sums[edit.stem]]
         if not left:
             continue
         print(f"{crate}: {len(left)} of {len(sums)} edits to try", flush=True)
