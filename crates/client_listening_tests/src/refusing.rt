@@ -69,7 +69,7 @@ impl Service for RefusingService {
 
     ghost rules = { λ s. ⟦<HandlerService<Refusing> as Service>⟧.rules s.handlers };
 
-    ghost first = { λ s. ⟦<HandlerService<Refusing> as Service>⟧.first s.handlers };
+    ghost begins = { λ s. ⟦<HandlerService<Refusing> as Service>⟧.begins s.handlers };
 
     ghost also = { λ s. ⟦<HandlerService<Refusing> as Service>⟧.also s.handlers };
 
