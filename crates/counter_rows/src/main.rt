@@ -3,21 +3,25 @@
 //! expects. The head of `stdin` has the format.
 #![tactic(auto)]
 
-use counter::Counter;
+mod counters;
+
+use crate::counters::Counters;
+use client_services::Service;
 use cursor_judging::{CursorRows, Ending, Serving};
-use moving_serving::serve_moving;
+use moving_services::MovingService;
 use pg_handlers::ScriptDesk;
-use pg_portal::MemPortalStore;
 use pg_streams::{MemorySink, MemorySource};
 use row_files::{Fault, judge_lines};
 use std::alloc::Global;
 use std::io;
 
-/// A counter, with a store in memory.
+/// A service whose clients have a counter each, which begins at 0.
 #[derive(Drop)]
-struct Counters;
+struct CounterService {
+    service: MovingService<Counters>,
+}
 
-impl Serving for Counters {
+impl Serving for CounterService {
     fn serve<'t>(
         &self,
         alloc: Global,
@@ -26,12 +30,14 @@ impl Serving for Counters {
         sink: &mut MemorySink,
         turns: u64,
     ) -> Result<Ending, Fault<'t>> {
-        let counter = Counter { number: 0 };
-        let store = MemPortalStore::new(alloc);
-        Ok(serve_moving(alloc, counter, store, desk, source, sink, turns))
+        Ok(self.service.serve(alloc, desk, source, sink, turns))
     }
 }
 
 fn main(rt: HostRuntime) -> io::Result<()> {
-    judge_lines(&rt, rt.alloc(), &CursorRows { serving: Counters })
+    let service = MovingService {
+        clients: Counters { first: 0 },
+    };
+    let serving = CounterService { service };
+    judge_lines(&rt, rt.alloc(), &CursorRows { serving })
 }
