@@ -18,7 +18,7 @@ impl MovingClients for Counters {
 
     type Handlers = Counter;
 
-    ghost finds = { λ s w. w ≡ s.first };
+    ghost gives = { λ s counter. counter.number ≡ s.first };
 
     ghost Shared = { ℕ };
 

@@ -6,6 +6,10 @@ use Rattle.pg_engine.specs.Serving.{TakesFrom}
 use Rattle.moving_runs.specs.Sheets.{Ahead}
 use Rattle.moving_runs.specs.Meeting.{Meeting, MetFrames}
 
+-- A client may find this world: it may be given handlers that are in it.
+abbrev pub FindsWorld : {H W : Type 0} → (H → W) → (H → Type 0) → W → Type 0
+FindsWorld {H} world gives w = (handlers : H) × gives handlers × (w ≡ world handlers)
+
 -- The frames of the bytes that were taken were met in turn, from a world on that the client may have found, and the handlers told these
 -- sheets. The last world is where they stood then.
 pub record WasMetFrom {W S : Type 0} (Meets : Meeting W S) (finds : W → Type 0) (first : Ahead S) (left new_left : Option (List ℕ))

@@ -11,8 +11,8 @@ pub trait MovingClients: Drop {
     /// The handlers of one client.
     type Handlers: MovingHandlers;
 
-    // the worlds that a client who comes may find
-    ghost finds: { Self → Self.Handlers.World → Type 0 };
+    // the handlers that a client who comes may be given
+    ghost gives: { Self → Self.Handlers → Type 0 };
     // what its values share, as contracts see it
     ghost Shared: { Type 0 };
     // the same of this value
@@ -20,7 +20,7 @@ pub trait MovingClients: Drop {
 
     /// The handlers of a client who comes. The only error is running out of memory.
     fn handlers(&self, alloc: Global) -> Result<Self::Handlers, AllocError>
-        ensures { IfOk result (λ handlers. finds self.now (Self.Handlers.world handlers)) };
+        ensures { IfOk result (gives self.now) };
 
     /// The same, for one more client. The only error is running out of memory.
     fn share(&self) -> Result<Self, AllocError>

@@ -22,7 +22,7 @@ impl<C: MovingClients> Service for MovingService<C> {
     ghost use Rattle.std.specs.Prelude.{◌≡◌};
     ghost use Rattle.pg_client.specs.State.{first_state};
     ghost use Rattle.moving_runs.specs.Sheets.{Ahead, sheet_rules};
-    ghost use Rattle.moving_services.specs.Met.{WasMet};
+    ghost use Rattle.moving_services.specs.Met.{FindsWorld, WasMet};
 
     ghost At = { Ahead C.Handlers.Sheet.Extended.Statement };
 
@@ -33,7 +33,7 @@ impl<C: MovingClients> Service for MovingService<C> {
 
     // the sheets are those of the client's messages, each of which was met in turn
     ghost also = { λ s first turns answer left new_left calls before after.
-        WasMet C.Handlers.meets (C.finds s.clients) first left new_left calls };
+        WasMet C.Handlers.meets (FindsWorld C.Handlers.world (C.gives s.clients)) first left new_left calls };
 
     fn serve<D: CancelDesk, S: Source, K: Sink>(
         &self,
