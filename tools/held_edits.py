@@ -119,6 +119,8 @@ def main():
         if "--list" in sys.argv:
             continue
         outcomes = tried(crate, left)
+        # (another run may have recorded some meanwhile)
+        found = recorded()
         for edit in left:
             outcome, why = outcomes.get(edit.stem, ("NOT TRIED", "no line told of it"))
             if outcome == "refused, as it must be":

@@ -67,6 +67,7 @@ response_sendable formats statement.Failed =
     (by_test (codes "refused") refl)).encodable
 response_sendable formats statement.Done = done_sendable
 response_sendable formats statement.Late = (columns_sendable formats, select_is_tag)
+response_sendable formats statement.Nothing = tt
 
 pub responses_sendable : (statements : List SampleStatement)
     → AllByRecursion IsSendableResponse (map (response_of format.UnifiedText) statements)

@@ -10,6 +10,7 @@ other_meaning_of text =
     if bytes_eq text (codes "failed") then Some statement.Failed
     else if bytes_eq text (codes "done") then Some statement.Done
     else if bytes_eq text (codes "late") then Some statement.Late
+    else if bytes_eq text (codes "nothing") then Some statement.Nothing
     else None
 
 -- what a trimmed text means

@@ -113,6 +113,7 @@ response_of formats statement.CopyBoth = response.CopyBoth (copy_told (pos 0) 1)
 response_of formats statement.Failed = response.Error (error (codes "22023") (codes "refused"))
 response_of formats statement.Done = response.Execution done_tag
 response_of formats statement.Late = response.Query (rows_told formats (pair_items (column_format formats 1)))
+response_of formats statement.Nothing = response.EmptyQuery
 
 -- the polls that find a statement's query unready
 abbrev pub polls_of : SampleStatement → ℕ

@@ -51,6 +51,7 @@ pub(crate) fn response(
             Ok(Response::Execution(tag))
         }
         SampleStatement::Late => pair(alloc, formats),
+        SampleStatement::Nothing => Ok(Response::EmptyQuery),
     }
 }
 

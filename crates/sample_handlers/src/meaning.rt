@@ -26,6 +26,8 @@ pub enum SampleStatement {
     Done,
     /// `late`: two rows, after one poll.
     Late,
+    /// `nothing`: the answer to a blank query.
+    Nothing,
 }
 
 /// What a query means. Whitespace and semicolons at both ends count for nothing.
@@ -66,6 +68,8 @@ fn other_meaning_of(text: &str) -> Option<SampleStatement>
         Some(SampleStatement::Done)
     } else if text == "late" {
         Some(SampleStatement::Late)
+    } else if text == "nothing" {
+        Some(SampleStatement::Nothing)
     } else {
         None
     }
