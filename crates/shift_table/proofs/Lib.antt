@@ -1,0 +1,6 @@
+pub mod Places
+pub mod Meeting
+pub mod Timetables
+pub mod Entries
+pub mod Removed
+pub mod Taken
