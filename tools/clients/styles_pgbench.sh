@@ -29,6 +29,6 @@ for mode in simple extended prepared; do
   tell "a parameter, -M $mode" -f "$folder/given" -D 'x=36:00' -M "$mode" -c 2 -t 10
 done
 tell 'its row' -f "$folder/told" -D 'x=36:00' -M extended -t 1
-sed -n '/:.*P/p' "$folder/said"
+sed -n '/ PT/p' "$folder/said"
 tell 'no interval' -f "$folder/bad" -t 10
 tell 'its own script' -t 10
