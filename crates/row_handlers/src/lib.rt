@@ -14,3 +14,4 @@ pub use columns::{column, one_row, put_column};
 pub use errors::user_error;
 pub use handlers::RowHandlers;
 pub use parser::RowParser;
+pub use response::begun;

@@ -70,7 +70,7 @@ fn rows_under<R: RowSource>(
 }
 
 /// The query that gives this outcome at its first poll. Where memory ran out, none begins.
-pub(crate) fn begun<T: Drop>(outcome: Result<T, PgWireError>) -> Result<PolledQuery<T>, AllocError>
+pub fn begun<T: Drop>(outcome: Result<T, PgWireError>) -> Result<PolledQuery<T>, AllocError>
     ensures owes { IfOk result (λ query. query.unready ≡ 0) }
     ensures outcome { IfOk result (λ query. query.outcome ≡ Some outcome) }
     ensures none { IsErr result ↔ (outcome ≡ Err wire.NoMemory) }

@@ -5,7 +5,7 @@ ghost use Rattle.std.specs.List.{list_any};
 ghost use Rattle.std.specs.Ordering.{nat_cmp};
 ghost use Rattle.std.specs.Cmp.Lexicographic.{pointwise, slice_cmp, nat_list_eq_equiv, nat_list_cmp_total, texts_ties, texts_po};
 ghost use Rattle.std.specs.Cmp.{partial_equiv_from_equiv};
-ghost use Rattle.shift_table.specs.Names.{name_fault};
+ghost use Rattle.shift_table.specs.Names.{IsShiftName, name_fault};
 ghost use Rattle.shift_table.specs.declared.name.NameError.TheVariants as error;
 
 use std::alloc::{AllocError, Global};
@@ -67,7 +67,8 @@ impl ShiftName {
 
     /// The text.
     pub fn as_str(&self) -> &str
-        ensures { result.now ≡ self.now }
+        ensures text { result.now ≡ self.now }
+        ensures name { IsShiftName self.now }
     {
         self.text.as_str()
     }

@@ -1,5 +1,5 @@
 -- The row of an interval shows it, and is what a query that stands for it is answered.
-use Rattle.std.proofs.Common.{◌≡◌, ℕ, List, [], ◌∷◌, Result, Ok, refl}
+use Rattle.std.proofs.Common.{◌≡◌, ℕ, List, Result, Ok, refl}
 use Rattle.pg_interval.specs.Printed.{printed}
 use Rattle.pg_interval.specs.Reading.{Style, Postgres, PostgresVerbose, Iso8601, SqlStandard, StandsForOnly, reading}
 use Rattle.pg_interval.specs.declared.pg_interval.Interval.{Interval}

@@ -2,7 +2,7 @@
 use Rattle.std.specs.Prelude.{ℕ, pos, negsuc, List, [], ◌∷◌, Some, ◌≡◌, length}
 use Rattle.std.specs.List.{flat_map}
 use Rattle.pg_interval.specs.Printed.{printed}
-use Rattle.pg_interval.specs.Reading.{Style, Postgres, PostgresVerbose, Iso8601, SqlStandard, StandsForOnly}
+use Rattle.pg_interval.specs.Reading.{Postgres, PostgresVerbose, Iso8601, SqlStandard, StandsForOnly}
 use Rattle.pg_interval.specs.declared.pg_interval.Interval.{Interval}
 use Rattle.pg_messages.specs.declared.data.DataRow.{DataRow}
 use Rattle.pg_text.specs.Words.{interval_style_name}

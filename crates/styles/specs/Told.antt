@@ -12,11 +12,12 @@ use Rattle.pg_results.specs.declared.error.PgWireError.{PgWireError}
 use Rattle.pg_results.specs.declared.format.Format.{Format}
 use Rattle.pg_results.specs.declared.format.Format.TheVariants as format
 use Rattle.query_texts.specs.QueryTexts.{trimmed}
+use Rattle.interval_texts.specs.Reading.{interval_of}
 use Rattle.row_handlers.specs.Answers.{AnswersTold}
 use Rattle.row_handlers.specs.Told.{rows_under}
 use Rattle.styles.specs.declared.answers.StylesStatement.{StylesStatement}
 use Rattle.styles.specs.declared.answers.StylesStatement.TheVariants as statement
-use Rattle.styles.specs.Reading.{interval_given, interval_of}
+use Rattle.styles.specs.Reading.{interval_given}
 use Rattle.styles.specs.Rows.{Shows, columns, row_of}
 
 -- what is read, as the statement of its interval

@@ -1,7 +1,8 @@
 //! What queries mean, and what they are answered.
 
-use crate::reading::{read_interval, read_parameter};
+use crate::reading::read_parameter;
 use crate::rows::row_of;
+use interval_texts::read_interval;
 use pg_interval::Interval;
 use pg_messages::{PgBytes, PgList};
 use pg_portal::{FieldInfo, Format, ListRows, PgWireError};
@@ -34,7 +35,6 @@ impl RowAnswers for Styles {
 
     ghost told = { λ _. told_styles };
 
-    #[tactic(auto, using(crate::proofs::Sendable::text_answerable))]
     fn parse(
         &self,
         alloc: Global,

@@ -7,7 +7,7 @@ ghost use Rattle.pg_portal.specs.Told.{BoundPortal};
 ghost use Rattle.pg_results.specs.declared.client.ClientInfo.{ClientInfo};
 ghost use Rattle.pg_results.specs.declared.format.Format.TheVariants as format;
 ghost use Rattle.query_texts.specs.QueryTexts.{trimmed};
-ghost use Rattle.styles.specs.Reading.{interval_of};
+ghost use Rattle.interval_texts.specs.Reading.{interval_of};
 ghost use Rattle.row_handlers.specs.Told.{told_extended, told_simple};
 ghost use Rattle.styles.specs.Told.{IsAnsweredBy, AreAnsweredBy, interval_asked, told_styles};
 ghost use Rattle.styles.specs.declared.answers.StylesStatement.{StylesStatement};

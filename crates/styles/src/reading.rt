@@ -1,95 +1,32 @@
-//! What the texts and parameters of queries stand for, or why they stand for no interval.
+//! What the parameters of queries stand for, or why they stand for no interval.
 
-ghost use Rattle.std.specs.Prelude.{◌≡◌, IfOk, string_bytes};
-ghost use Rattle.std.specs.List.{list_any};
+ghost use Rattle.std.specs.Prelude.{IfErr};
 ghost use Rattle.std.specs.Option.{option_copied};
-ghost use Rattle.pg_interval.specs.Texts.{is_letter};
-ghost use Rattle.pg_text.specs.Words.{interval_style_name};
+ghost use Rattle.pg_results.specs.Rows.{IsAnswerableItem};
 ghost use Rattle.pg_results.specs.Told.{IsOutcome};
-ghost use Rattle.styles.specs.Reading.{style_of, reason, or_refused, interval_of, interval_given};
+ghost use Rattle.styles.specs.Reading.{interval_given};
 
+use interval_texts::read_in_format;
 use pg_interval::Interval;
 use pg_messages::PgBytes;
 use pg_portal::PgWireError;
-use pg_text::{CellError, FieldFormat, FromSql, IntervalStyle, PgType};
+use pg_text::FieldFormat;
 use row_handlers::user_error;
-use std::alloc::{AllocError, Global};
-
-/// The interval that a text stands for.
-pub(crate) fn read_interval(alloc: Global, text: &[u8]) -> Result<Interval, PgWireError>
-    ensures { IsOutcome (interval_of text.now) result }
-{
-    let (style, name) = style_of(text);
-    or_refused(alloc, name, style.read(text))
-}
+use std::alloc::Global;
 
 /// The interval that a parameter stands for: by its text, or by its sixteen bytes where its format
 /// is binary. A null stands for none.
+#[tactic(auto, using(crate::proofs::Sendable::no_interval_answerable))]
 pub(crate) fn read_parameter(
     alloc: Global,
     format: Option<FieldFormat>,
     value: Option<&Option<PgBytes>>,
 ) -> Result<Interval, PgWireError>
-    ensures { IsOutcome (interval_given format (option_copied value.entry)) result }
+    ensures outcome { IsOutcome (interval_given format (option_copied value.entry)) result }
+    ensures answerable { IfErr result IsAnswerableItem }
 {
-    match (format, value) {
-        (_, Some(None)) | (_, None) => {
-            Err(user_error(alloc, "22004", "there is no interval for $1")?)
-        }
-        (Some(FieldFormat::Binary), Some(Some(bytes))) => {
-            let read = <Interval as FromSql>::from_sql(PgType::Interval, bytes.as_slice());
-            or_refused(alloc, "binary", read)
-        }
-        (_, Some(Some(bytes))) => read_interval(alloc, bytes.as_slice()),
-    }
-}
-
-/// The style that a text is read in, and its name: postgres_verbose where the text begins with `@`,
-/// iso_8601 where it begins with `P`, else postgres where it has a letter, and else sql_standard.
-fn style_of(text: &[u8]) -> (IntervalStyle, &'static str)
-    ensures style { result.0 ≡ style_of text.now }
-    ensures name { result.1.now ≡ interval_style_name (style_of text.now) }
-{
-    match text {
-        [b'@', ..] => (IntervalStyle::PostgresVerbose, "postgres_verbose"),
-        [b'P', ..] => (IntervalStyle::ISO8601, "iso_8601"),
-        _ if has_letter(text) => (IntervalStyle::Postgres, "postgres"),
-        _ => (IntervalStyle::SQLStandard, "sql_standard"),
-    }
-}
-
-/// Whether a byte is a letter.
-fn has_letter(text: &[u8]) -> bool
-    ensures { result ≡ list_any is_letter text.now }
-{
-    text.iter().any(|byte| byte.is_ascii_alphabetic())
-}
-
-/// What was read, or the error that tells which reader refused, and why.
-fn or_refused(
-    alloc: Global,
-    reader: &str,
-    read: Result<Interval, CellError>,
-) -> Result<Interval, PgWireError>
-    ensures { IsOutcome (or_refused reader.now read) result }
-{
-    match read {
-        Ok(interval) => Ok(interval),
-        Err(cause) => {
-            let reason = reason(alloc, &cause)?;
-            let message = format!(in alloc; "no interval in {reader}: {reason}")?;
-            Err(user_error(alloc, "22007", message.as_str())?)
-        }
-    }
-}
-
-/// Why a reader refused.
-fn reason(alloc: Global, cause: &CellError) -> Result<String, AllocError>
-    ensures { IfOk result (λ text. string_bytes text ≡ reason cause.now) }
-{
-    match cause {
-        CellError::Parse(cause) => cause.to_string(alloc),
-        CellError::ShortCell => String::from_str(alloc, "fewer than sixteen bytes"),
-        _ => String::from_str(alloc, "not UTF-8"),
+    match value {
+        Some(Some(bytes)) => read_in_format(alloc, format, bytes.as_slice()),
+        Some(None) | None => Err(user_error(alloc, "22004", "there is no interval for $1")?),
     }
 }

@@ -1,5 +1,5 @@
 use Rattle.query_texts.specs.QueryTexts.{trimmed}
-use Rattle.styles.specs.Reading.{interval_of}
+use Rattle.interval_texts.specs.Reading.{interval_of}
 use Rattle.styles.specs.Told.{interval_asked}
 use Rattle.styles.proofs.Showing.{answered_alone, answered_one, shows}
 use Rattle.styles.proofs.laws.each_cell_stands_for_its_query.Goals as goal

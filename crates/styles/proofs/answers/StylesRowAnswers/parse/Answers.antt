@@ -3,8 +3,8 @@ use Rattle.std.specs.Option.{option_copied}
 use Rattle.std.specs.Str.{bytes_eq}
 use Rattle.pg_results.specs.Told.{IsOutcome}
 use Rattle.query_texts.specs.QueryTexts.{trimmed}
-use Rattle.styles.specs.Reading.{interval_of}
-use Rattle.styles.proofs.Sendable.{text_error, text_read, text_refused}
+use Rattle.interval_texts.specs.Reading.{interval_of}
+use Rattle.styles.proofs.Sendable.{text_read, text_refused}
 use Rattle.styles.proofs.answers.StylesRowAnswers.parse.Goals.{else-is_some-via-then-is_some+else-eq, else-is_some-via-else-is_some}
 use Rattle.styles.proofs.answers.StylesRowAnswers.parse.Goals as goal
 
@@ -16,11 +16,7 @@ returns-in-Err-clause-outcome c =
       | else-is_some-via-else-is_some w ↦ inl (search rules)
     ] in
     text_refused text types c.in-Err.error apart
-    (subst (λ t. IsOutcome (interval_of t) (Err c.in-Err.error)) (c.as_bytes.ensures.value ∙ c.trimmed-text.ensures) c.in-Err.ensures)
-
-pub returns-in-Err-clause-answerable : goal.returns-in-Err-clause-answerable
-returns-in-Err-clause-answerable c =
-    text_error c.as_bytes.result.now c.in-Err.error c.in-Err.ensures
+    (subst (λ t. IsOutcome (interval_of t) (Err c.in-Err.error)) (c.as_bytes.ensures.value ∙ c.trimmed-text.ensures) c.in-Err.ensures.outcome)
 
 pub returns-in-Ok-clause-outcome : goal.returns-in-Ok-clause-outcome
 returns-in-Ok-clause-outcome c =
@@ -30,4 +26,4 @@ returns-in-Ok-clause-outcome c =
       | else-is_some-via-else-is_some w ↦ inl (search rules)
     ] in
     text_read text types c.in-Ok.interval apart
-    (subst (λ t. IsOutcome (interval_of t) (Ok c.in-Ok.interval)) (c.as_bytes.ensures.value ∙ c.trimmed-text.ensures) c.in-Ok.ensures)
+    (subst (λ t. IsOutcome (interval_of t) (Ok c.in-Ok.interval)) (c.as_bytes.ensures.value ∙ c.trimmed-text.ensures) c.in-Ok.ensures.outcome)

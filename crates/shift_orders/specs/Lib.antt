@@ -1,0 +1,4 @@
+pub mod Tokens
+pub mod Stops
+pub mod Statements
+pub mod Orders

@@ -1,0 +1,126 @@
+-- What the text of a query means.
+use Rattle.std.specs.Prelude.{ℕ, Bool, true, false, List, [], ◌∷◌, ◌++◌, ◌+◌, ◌==◌, ◌&&◌, Result, Ok, Err, map, if◌then◌else◌, codes, bytes_eq}
+use Rattle.pg_results.specs.Errors.{error}
+use Rattle.pg_results.specs.declared.error.PgWireError.{PgWireError}
+use Rattle.pg_results.specs.declared.error.PgWireError.TheVariants as wire
+use Rattle.pg_types.specs.declared.pg_type.PgType.{PgType}
+use Rattle.pg_types.specs.declared.pg_type.PgType.TheVariants as type
+use Rattle.query_texts.specs.QueryTexts.{is_word, trimmed}
+use Rattle.shift_orders.specs.Tokens.{is_ended, tokens}
+use Rattle.shift_orders.specs.declared.statement.Argument.{Argument}
+use Rattle.shift_orders.specs.declared.statement.Argument.TheVariants.{Text, Parameter}
+use Rattle.shift_orders.specs.declared.statement.ShiftStatement.{ShiftStatement}
+use Rattle.shift_orders.specs.declared.statement.ShiftStatement.TheVariants.{Book, Cancel, Shifts, ShiftsOf, Begin, Commit, Rollback}
+use Rattle.shift_orders.specs.declared.tokens.Token.{Token}
+use Rattle.shift_orders.specs.declared.tokens.Token.TheVariants.{Word, Quoted}
+
+-- ---- errors
+
+abbrev pub no_statement : PgWireError
+no_statement = wire.UserError (error (codes "42601")
+    (codes "a query is BOOK name start length, CANCEL name start, SHIFTS, SHIFTS OF name, BEGIN, COMMIT or ROLLBACK"))
+
+abbrev pub not_ended : PgWireError
+not_ended = wire.UserError (error (codes "42601") (codes "a quote isn't ended"))
+
+abbrev pub not_in_order : PgWireError
+not_in_order = wire.UserError (error (codes "42P02") (codes "parameters stand in their order: $1, $2, $3"))
+
+-- ---- arguments
+
+-- the argument that a token is: the words `$1`, `$2` and `$3` are parameters, and any other token stands for its text
+abbrev pub argument_of : Token → Argument
+argument_of (Word word) =
+    if bytes_eq word (codes "$1") then Parameter 0
+    else if bytes_eq word (codes "$2") then Parameter 1
+    else if bytes_eq word (codes "$3") then Parameter 2
+    else Text word
+argument_of (Quoted text) = Text text
+
+-- the arguments of a statement, in the order in which they stand
+abbrev pub arguments : ShiftStatement → List Argument
+arguments (Book name start length) = name ∷ start ∷ length ∷ []
+arguments (Cancel name start) = name ∷ start ∷ []
+arguments (ShiftsOf name) = name ∷ []
+arguments _ = []
+
+-- whether the parameters among arguments are the next ones in turn
+abbrev pub in_order : ℕ → List Argument → Bool
+in_order next [] = true
+in_order next (Text text ∷ more) = in_order next more
+in_order next (Parameter index ∷ more) = index == next && in_order (next + 1) more
+
+-- how many parameters an argument is
+abbrev pub parameters : Argument → ℕ
+parameters (Text text) = 0
+parameters (Parameter index) = 1
+
+-- a statement whose parameters stand in their order, from `$1` on
+abbrev pub ordered : ShiftStatement → Result ShiftStatement PgWireError
+ordered statement = if in_order 0 (arguments statement) then Ok statement else Err not_in_order
+
+-- ---- statements
+
+-- `name start length`, behind BOOK
+abbrev pub booking : List Argument → Result ShiftStatement PgWireError
+booking (name ∷ start ∷ length ∷ []) = ordered (Book name start length)
+booking _ = Err no_statement
+
+-- `name start`, behind CANCEL
+abbrev pub canceling : List Argument → Result ShiftStatement PgWireError
+canceling (name ∷ start ∷ []) = ordered (Cancel name start)
+canceling _ = Err no_statement
+
+-- a token is a key word, in any ASCII case; a quoted text is none
+abbrev pub is_key : Token → List ℕ → Bool
+is_key (Word word) key = is_word word key
+is_key (Quoted text) key = false
+
+-- `name`, behind SHIFTS OF
+abbrev pub listing_of : List Argument → Result ShiftStatement PgWireError
+listing_of (name ∷ []) = ordered (ShiftsOf name)
+listing_of _ = Err no_statement
+
+-- nothing or `OF name`, behind SHIFTS
+abbrev pub listing : List Token → Result ShiftStatement PgWireError
+listing [] = Ok Shifts
+listing (of ∷ behind) = if is_key of (codes "OF") then listing_of (map argument_of behind) else Err no_statement
+
+-- nothing, behind a statement of one word
+abbrev pub alone : ShiftStatement → List Token → Result ShiftStatement PgWireError
+alone statement [] = Ok statement
+alone statement (token ∷ tokens) = Err no_statement
+
+-- the statement of a key word and what stands behind it
+abbrev pub statement_of : List Token → Result ShiftStatement PgWireError
+statement_of [] = Err no_statement
+statement_of (key ∷ behind) =
+    if is_key key (codes "BOOK") then booking (map argument_of behind)
+    else if is_key key (codes "CANCEL") then canceling (map argument_of behind)
+    else if is_key key (codes "SHIFTS") then listing behind
+    else if is_key key (codes "BEGIN") then alone Begin behind
+    else if is_key key (codes "COMMIT") then alone Commit behind
+    else if is_key key (codes "ROLLBACK") then alone Rollback behind
+    else Err no_statement
+
+-- what a text without padding means
+abbrev pub meaning : List ℕ → Result ShiftStatement PgWireError
+meaning text = if is_ended text then statement_of (tokens text) else Err not_ended
+
+-- what a query means, without whitespace and semicolons at both ends
+abbrev pub meaning_of : List ℕ → Result ShiftStatement PgWireError
+meaning_of query = meaning (trimmed query)
+
+-- ---- parameters
+
+-- the type of an argument that is a parameter
+abbrev pub asked : PgType → Argument → List PgType
+asked datatype (Text text) = []
+asked datatype (Parameter index) = datatype ∷ []
+
+-- the types of a statement's parameters: text for a name, and interval for a start and a length
+abbrev pub parameter_types : ShiftStatement → List PgType
+parameter_types (Book name start length) = asked type.Text name ++ asked type.Interval start ++ asked type.Interval length
+parameter_types (Cancel name start) = asked type.Text name ++ asked type.Interval start
+parameter_types (ShiftsOf name) = asked type.Text name
+parameter_types _ = []
