@@ -33,8 +33,8 @@ serve:
 # recordings and reports that are larger than each buffer; then sees that a server's size stays over 40,000 queries
 # (tools/try_soak 100000 takes more); then tells the rotas of README.md; then runs psql's cursors over `pg_cursor`; then records
 # the sample client, verifies it, and sees changes named; then runs the examples of the pages and of each --help; then tries the
-# clients of docs/CLIENTS.md that are installed; then follows docs/HANDLERS.md on a copy of the repository. make try NAMES="psql
-# keys" for some of these.
+# clients of docs/CLIENTS.md that are installed; then has clients book shifts at once, in transactions too; then follows
+# docs/HANDLERS.md on a copy of the repository. make try NAMES="psql keys" for some of these.
 try:
 	@python3 -B tools/try_all.py $(NAMES)
 

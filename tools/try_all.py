@@ -1,8 +1,8 @@
 #!/usr/bin/env python3
 """Runs the scripts that try the programs, and tells how many passed: usage: try_all.py [--unproved] [NAME..]
 
-With --unproved the programs are built unproved, whether or not they were proved. A script whose commands aren't installed is told
-as skipped. The last line is `N passed, M failed`, and the status is 1 where one failed.
+With --unproved the programs are built unproved, whether or not they were proved. A script whose commands or modules aren't installed,
+or whose program crates.txt doesn't list, is told as skipped. The last line is `N passed, M failed`, and the status is 1 where one failed.
 """
 import os
 import shutil
@@ -10,9 +10,11 @@ import subprocess
 import sys
 import time
 
-from programs import NAMES, OVER_HANDLERS, TOP, program
+from programs import NAMES, OVER_HANDLERS, TOP, lines_of_crates, program
 
-# Each script by its name, with the commands that it needs.
+# The modules of Debian's Python that scripts need.
+MODULES = ["psycopg"]
+# Each script by its name, with the commands and modules that it needs.
 SCRIPTS = {
     "psql": ("tools/try_psql.sh", ["psql"]),
     "keys": ("tools/try_keys", []),
@@ -27,10 +29,29 @@ SCRIPTS = {
     "replay": ("tools/try_replay", []),
     "examples": ("tools/check_examples.py", []),
     "clients": ("tools/try_clients", []),
+    "schedule": ("tools/try_schedule", ["psql", "psycopg"]),
     "handlers": ("tools/try_handlers.py", ["psql", "pgbench"]),
 }
 # Those that run none of the programs below.
 ALONE = ["handlers"]
+# Those that run one program alone, by its crate.
+ONE = {"schedule": "schedule_server"}
+
+
+def is_installed(need):
+    """Whether a command is installed, or a module."""
+    if need not in MODULES:
+        return shutil.which(need) is not None
+    told = ["/usr/bin/python3", "-c", f"import {need}"]
+    return shutil.which(told[0]) is not None and subprocess.run(told, stderr=subprocess.DEVNULL, check=False).returncode == 0
+
+
+def why_skipped(name, needs):
+    """Why a script is skipped, or nothing where it isn't."""
+    lacking = [need for need in needs if not is_installed(need)]
+    if lacking:
+        return f"{', '.join(lacking)} is not installed"
+    return f"crates.txt has no crate {ONE[name]}" if name in ONE and ONE[name] not in lines_of_crates() else ""
 
 
 def is_passed(name, script):
@@ -48,15 +69,14 @@ def main():
         sys.exit(f"there is nothing to try by the name {unknown[0]}: there are {', '.join(SCRIPTS)}")
     if "--unproved" in sys.argv:
         os.environ["UNPROVED"] = "1"
-    if not words or set(words) - set(ALONE):
+    if not words or set(words) - {*ALONE, *ONE}:
         for crate in [*NAMES, *OVER_HANDLERS]:
             program(crate)
     passed, failed, skipped = 0, [], []
     for name in words or SCRIPTS:
-        script, commands = SCRIPTS[name]
-        lacking = [command for command in commands if not shutil.which(command)]
-        if lacking:
-            skipped.append(f"skipped {name}: {', '.join(lacking)} is not installed")
+        script, needs = SCRIPTS[name]
+        if why := why_skipped(name, needs):
+            skipped.append(f"skipped {name}: {why}")
         elif is_passed(name, script):
             passed += 1
         else:

@@ -9,7 +9,7 @@ mod server;
 mod telling;
 
 pub use client_listening::{AdmittedClient, ClientSpawner, ClientThreads};
-pub use one_client::serve_client;
+pub use one_client::{serve_client, serve_one};
 pub use orders::{Order, order_of};
-pub use program::run_program;
+pub use program::{run_program, run_service};
 pub use server::{HandlerJob, HandlerServer};

@@ -2,10 +2,11 @@
 
 ghost use Rattle.std.specs.Prelude.{◌≡◌};
 
-use crate::one_client::serve_client;
+use crate::one_client::{OverHandlers, OverService, ServesOne};
 use crate::orders::{Order, order_of};
 use crate::telling::{tell_help, tell_listened, tell_served, tell_usage, tell_version};
 use client_listening::{ClientThreads, ListenError, TURNS, listen_at};
+use client_services::Service;
 use pg_messages::{PgList, PgStr};
 use pg_serve::{ReaderSource, WriterSink};
 use pg_session::PgWireServerHandlers;
@@ -48,6 +49,53 @@ pub fn run_program<
 >(rt: R, name: &str, handlers: Arc<H>, threads: T, writer: W) -> io::Result<ExitCode>
     requires started { T.started threads ≡ 0 }
 {
+    run_words(rt, name, OverHandlers { handlers }, threads, writer)
+}
+
+/// The same as [`run_program`], with a service of any kind, as of handlers that change. `threads` has
+/// to serve the same service.
+pub fn run_service<
+    R: Wait
+        + Net<Stream = TcpStream, Listener = TcpListener>
+        + Files
+        + Clock
+        + RandomSource
+        + Env
+        + AllocGlobal
+        + Input
+        + Print
+        + Eprint
+        + Copy
+        + Drop,
+    V: Service,
+    T: ClientThreads + Drop,
+    W: Write + Drop,
+>(rt: R, name: &str, service: V, threads: T, writer: W) -> io::Result<ExitCode>
+    requires started { T.started threads ≡ 0 }
+{
+    run_words(rt, name, OverService { service }, threads, writer)
+}
+
+/// Does what the words of the command line order.
+fn run_words<
+    R: Wait
+        + Net<Stream = TcpStream, Listener = TcpListener>
+        + Files
+        + Clock
+        + RandomSource
+        + Env
+        + AllocGlobal
+        + Input
+        + Print
+        + Eprint
+        + Copy
+        + Drop,
+    O: ServesOne,
+    T: ClientThreads + Drop,
+    W: Write + Drop,
+>(rt: R, name: &str, one: O, threads: T, writer: W) -> io::Result<ExitCode>
+    requires started { T.started threads ≡ 0 }
+{
     let words = read_words(&rt)?;
     match order_of(words.as_slice()) {
         None => tell_usage(&rt, name),
@@ -59,7 +107,7 @@ pub fn run_program<
             tell_version(&rt, name)?;
             Ok(ExitCode::SUCCESS)
         }
-        Some(Order::Serve(pid, key)) => Ok(serve_standard(&rt, handlers, pid, &key, writer)),
+        Some(Order::Serve(pid, key)) => Ok(serve_standard(&rt, one, pid, &key, writer)),
         Some(Order::Listen(place, count)) => {
             let answer = listen_at(rt, place, count, TURNS, threads);
             Ok(tell_listened(&rt, &answer))
@@ -77,9 +125,9 @@ fn read_words<R: Env + AllocGlobal>(rt: &R) -> io::Result<PgList<PgStr>> {
 }
 
 /// Serves the client on standard input, whose replies go to the writer.
-fn serve_standard<R: Input + AllocGlobal + Eprint, H: PgWireServerHandlers, W: Write + Drop>(
+fn serve_standard<R: Input + AllocGlobal + Eprint, O: ServesOne, W: Write + Drop>(
     rt: &R,
-    handlers: Arc<H>,
+    one: O,
     pid: i32,
     key: &KeyBytes,
     writer: W,
@@ -97,6 +145,6 @@ fn serve_standard<R: Input + AllocGlobal + Eprint, H: PgWireServerHandlers, W: W
         faults: 0,
         sent: 0,
     };
-    let answer = serve_client(rt.alloc(), handlers, pid, key, &mut source, &mut sink);
+    let answer = one.serve_one(rt.alloc(), pid, key, &mut source, &mut sink);
     tell_served(rt, &answer)
 }

@@ -1,0 +1,8 @@
+//! A schedule of shifts that clients share: a service whose handlers change.
+#![tactic(auto)]
+
+mod laws;
+mod schedule;
+
+pub use laws::{bookings_are_told_in_order, no_two_shifts_clash};
+pub use schedule::Schedule;
