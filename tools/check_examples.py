@@ -11,8 +11,9 @@ What an example of --help prints is compared too: with the lines behind the same
 tools/help_examples.txt, which are written down by hand from data/rosters.
 
 The commands of a page run in one folder, in which data/, tools/ and the rest of the repository are found, and `client`, the bytes of
-tools/demo_client.hex. The programs' names and `crates/NAME/out/NAME` stand for the programs, proved or not, and ports from 5433
-to 5439 for free ones. It prints `N passed, M failed`; its status is 1 where one failed.
+tools/demo_client.hex. The programs' names and `crates/NAME/out/NAME` stand for the programs, proved or not, `python3` for the
+system's own where that has the modules that examples import, and ports from 5433 to 5439 for free ones. It prints `N passed, M failed`;
+its status is 1 where one failed.
 """
 import os
 import pathlib
@@ -25,27 +26,33 @@ import sys
 import tempfile
 import time
 
-from programs import NAMES, TOP, program
+from programs import NAMES, OVER_HANDLERS, TOP, program
 from show_frames import read_client
+from try_all import MODULES, PYTHON, is_installed
 
-PROGRAMS = {**NAMES, "styles_server": "styles_server"}
+PROGRAMS = {**NAMES, **{name: name for name in OVER_HANDLERS}}
 SECONDS = 120
 # Commands that not each machine has.
 WANTED = ("psql", "pgbench", "xxd")
 
 
 class Example:
-    """A command, the lines that it prints, and where it stands."""
+    """A command, the lines that it prints, where it stands, and those that stand before it in its block."""
 
-    def __init__(self, place, command, lines):
-        self.place, self.command, self.lines = place, command, lines
+    def __init__(self, place, command, lines, before=()):
+        self.place, self.command, self.lines, self.before = place, command, lines, before
 
     def goes_on(self):
         return self.command.endswith(" &")
 
+    def needs(self):
+        """The commands and the modules of Python that not each machine has."""
+        return [word for word in WANTED if re.search(rf"(^|[\s|(]){word}\b", self.command)] + [
+            word for word in MODULES if re.search(rf"\bimport {word}\b", self.command)]
+
     def lacks(self):
-        """What it needs and isn't installed."""
-        return next((word for word in WANTED if re.search(rf"(^|[\s|(]){word}\b", self.command) and not shutil.which(word)), None)
+        """What it needs, or one before it in its block does, and isn't installed."""
+        return next((word for one in (*self.before, self) for word in one.needs() if not is_installed(word)), None)
 
 
 def blocks(text):
@@ -71,13 +78,12 @@ def examples_of_page(name):
     """The examples of a page, or of a file as one."""
     found = []
     for block in blocks((TOP / name).read_text()):
-        inside = None
+        begun = len(found)
         for number, line in block:
             if line.startswith("$ "):
-                inside = Example(f"{name}:{number}", line[2:].rstrip(), [])
-                found.append(inside)
-            elif inside:
-                inside.lines.append(line.rstrip())
+                found.append(Example(f"{name}:{number}", line[2:].rstrip(), [], found[begun:]))
+            elif found[begun:]:
+                found[-1].lines.append(line.rstrip())
     for one in found:
         while one.lines and not one.lines[-1]:
             one.lines.pop()
@@ -116,6 +122,8 @@ class Page:
         self.commands = pathlib.Path(tempfile.mkdtemp())
         for crate, name in PROGRAMS.items():
             (self.commands / name).symlink_to(paths[crate])
+        if all(map(is_installed, MODULES)):
+            (self.commands / "python3").symlink_to(PYTHON)
         # make serve listens at the free port too, where its line names none.
         self.environment = {**os.environ, "LC_ALL": "C", "PSQLRC": "/dev/null", "PGCONNECT_TIMEOUT": "30",
                             "PATH": f"{self.commands}:{os.environ['PATH']}", "MAKEFLAGS": f"s -- PORT={self.ports['5433']}"}

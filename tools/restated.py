@@ -78,14 +78,14 @@ def drawn(name, columns, count, seed):
 
 # What a client sends, and what it is answered.
 
-def startup(style="postgres", version=196608, parameters=()):
-    """A startup packet with this interval style, and what it is answered."""
+def startup(style="postgres", version=196608, parameters=(), pid=PID, key=KEY):
+    """A startup packet with this interval style, and what a client of this pid and key is answered."""
     body = struct.pack(">i", version) + string("user") + string("demo")
     for name, value in [*parameters, *([("intervalstyle", style)] if style != "postgres" else [])]:
         body += string(name) + string(value)
     sent = struct.pack(">i", len(body) + 5) + body + b"\0"
     told = frame(b"R", struct.pack(">i", 0)) + b"".join(frame(b"S", string(name) + string(value)) for name, value in SETTINGS)
-    return sent, told + frame(b"K", struct.pack(">i", PID) + KEY) + READY
+    return sent, told + frame(b"K", struct.pack(">i", pid) + key) + READY
 
 
 def query(text, answer, ready=READY):
@@ -153,7 +153,7 @@ def conversation(*steps):
     return b"".join(step[0] for step in steps) + TERMINATE, b"".join(step[1] for step in steps)
 
 
-def recording(client, replies, starts):
+def recording(client, replies, starts, pid=PID, key=KEY):
     """The recording of a session that asked the registry to start so many queries, and ended by Terminate."""
-    told = b"PGR1" + struct.pack(">ih", PID, len(KEY)) + KEY + struct.pack(">q", len(client)) + client
+    told = b"PGR1" + struct.pack(">ih", pid, len(key)) + key + struct.pack(">q", len(client)) + client
     return told + struct.pack(">i", starts) + bytes(starts) + struct.pack(">q", len(replies)) + replies + b"\0"

@@ -23,6 +23,7 @@ ARGUMENTS = {"BOOK": [TEXT, INTERVAL, INTERVAL], "CANCEL": [TEXT, INTERVAL], "SH
 PARAMETERS = {"$1": 0, "$2": 1, "$3": 2}
 COLUMNS = [("name", TEXT, -1), ("start", INTERVAL, 16), ("length", INTERVAL, 16)]
 OTHER_QUERY = "a query is BOOK name start length, CANCEL name start, SHIFTS, SHIFTS OF name, BEGIN, COMMIT or ROLLBACK"
+SEMICOLON = "a text with a semicolon stands in quotes"
 REFUSALS = {"NotPositive": ("22023", "the length of a shift is above zero"), "Unknown": ("42704", "no shift of this name starts then"),
             "Clash": ("23P01", "the shift clashes with one that is booked")}
 FAILED = "current transaction is aborted, commands ignored until end of transaction block"
@@ -81,9 +82,9 @@ CANCELS = asks(
 WORDS = asks(
     "shifts", " Shifts ;; ", "sHIFTS\n\toF\r\x0beve\x0c", "book\tbook\n1:00 1:00", "Cancel BOOK 1:00", "cANCEL book 1:00",
     "\N{LATIN SMALL LETTER LONG S}HIFTS", "BOOK 'o''hara' '08:00' '1:00'", "SHIFTS OF 'o''hara'", "BOOK '''' 1:00 1:00",
-    "SHIFTS OF ''''", "BOOK 'a'1:00'1:00'", "SHIFTS OF'a'", f"BOOK 'Zo{E} Ray; ' '-1 mons 2 days' 00:00:00.000001", "SHIFTS OF a;b",
-    "SHIFTS OF $4", "SHIFTS OF '$1'", "SHIFTS OF OF", f"BOOK {'n' * 63} 1:00 1:00", f"BOOK {'n' * 64} 1:00 1:00",
-    f"BOOK {E * 32} 1:00 1:00", "BOOK '' soon soon", "SHIFTS",
+    "SHIFTS OF ''''", "BOOK 'a'1:00'1:00'", "SHIFTS OF'a'", f"BOOK 'Zo{E} Ray; ' '-1 mons 2 days' 00:00:00.000001", "SHIFTS OF 'a;b'",
+    "SHIFTS OF '$1'", "SHIFTS OF '$4';", "BOOK a$1 1:00 1:00", "SHIFTS OF a$1", "SHIFTS OF OF", f"BOOK {'n' * 63} 1:00 1:00",
+    f"BOOK {'n' * 64} 1:00 1:00", f"BOOK {E * 32} 1:00 1:00", "BOOK '' soon soon", "SHIFTS",
 )
 # Texts that stand for no interval, quotes that aren't ended, other queries, blank ones, and parameters where none is given.
 BROKEN = asks(
@@ -96,6 +97,14 @@ BROKEN = asks(
     "BOOK $1 $2 $3", "BOOK ann $1 1:00", "BOOK ann 1:00 $1", "CANCEL $1 1:00", "SHIFTS OF $1", "BOOK '' $1 $2", "BOOK $2 $1 $3",
     "BOOK $1 $1 $2", "BOOK $1 $2 $2", "CANCEL $1 $3", "CANCEL ann $2", "SHIFTS OF $2", "SHIFTS $1",
 )
+# Words that begin with `$` and are no parameters, words with a semicolon in them, and which of two errors comes first.
+ODD_WORDS = asks(
+    "SHIFTS OF $4", "SHIFTS OF $0", "SHIFTS OF $x", "SHIFTS OF $", "SHIFTS OF $$", "SHIFTS OF $11", f"SHIFTS OF $1{E}", "CANCEL $01 1:00",
+    "CANCEL ann $9;", "SHIFTS OF ann;COMMIT", "SHIFTS OF 'ann;COMMIT'", "SHIFTS OF ;ann", "SHIFTS OF a;b", "CANCEL ann 1:00;SHIFTS",
+    "BOOK ann 1:00 1;00", "SHIFTS;SHIFTS", "SHIFTS; SHIFTS", "BEGIN;COMMIT", "SHIFTS OF ann; COMMIT", "SHIFTS OF ann'; COMMIT'",
+    "SHIFTS OF $a;b", "CANCEL $1;a $9", "BOOK a;b $9 1:00", "BOOK $9 a;b 1:00", "BOOK $2 $1 $9", "BOOK $2 $1 a;b", "BOOK '' soon $9",
+    "BOOK a b c d $9", "BOOK $9 a;b", "CANCEL $9", "SHIFTS $9", "LET $9", "$9", "$1", "a;b", "BOOK $9 a;b 'c",
+)
 # One that is kept, one that is rolled back, and such that fail: by an order, by a query that means nothing, by a length.
 TRANSACTIONS = asks(
     "COMMIT", "ROLLBACK", "BEGIN", "COMMIT",
@@ -106,6 +115,15 @@ TRANSACTIONS = asks(
     "BEGIN", "CANCEL sue 9:00", "BOOK sue 9:30 1:00", "SHIFTS OF sue", "Rollback", "SHIFTS OF sue",
     "BEGIN", "CANCEL sue 9:00", "CANCEL sue 9:00", "SHIFTS OF sue", "ROLLBACK", "SHIFTS OF sue",
     "BEGIN", "BOOK sue 1:00 0", "COMMIT", "BEGIN", "SELECT 1", "BEGIN", "rollback", "COMMIT",
+    "BEGIN", "CANCEL sue '9 hours'", "COMMIT", "SHIFTS OF sue", "BOOK sue 9:00 1:00",
+    "BEGIN", "CANCEL sue 9:00", "BOOK sue 9:00 2:00", "CANCEL sue 9:00", "BOOK sue 8:00 2:00", "COMMIT", "SHIFTS OF sue",
+)
+# In a transaction that failed, a text that means nothing has its own error. Any other query but COMMIT and ROLLBACK is refused before its
+# arguments are read.
+FAILED_ONES = asks(
+    "BEGIN", "CANCEL sue 8:00", "BOOK sue 1 soon", "BOOK sue soon 1:00", "BOOK '' soon soon", f"SHIFTS OF {'n' * 64}", "CANCEL ann $1",
+    "SHIFTS OF $1", "BOOK $1 $2 $3", "SHIFTS", "SHIFTS OF sue", "BEGIN", "SHIFTS OF $4", "SHIFTS OF a;b", "BOOK $2 $1 $3", "CANCEL ann",
+    "SHIFTS OF 'sue", "COMMIT;ROLLBACK", "COMMIT now", ";", "COMMIT", "SHIFTS OF sue", "BEGIN", "LET", "BOOK sue soon 1:00", "ROLLBACK",
 )
 # Parameters and results in both formats; commands whose portal is executed again; what isn't there.
 PREPARED = [
@@ -113,6 +131,9 @@ PREPARED = [
     *extended("BOOK $1 $2 $3", [b"zoe", b"@ 3 days", cell(0, 0, HOUR)], [0, 0, 1]),
     *extended("BOOK $1 $2 $3", [b"zoe", cell(0, 4, 0), b"PT1H"], [7, 1]), *extended("BOOK zoe $1 '1:00'", [cell(1, 0, 0) + b"more"], [1]),
     *extended("BOOK $1 5-0 $2", [b"zoe", b"1:00", b"not looked at"], [], [1, 1]),
+    parse("BOOK $1 $2 $3", "book"), ("D", "S", "book"), bind([b"yves", cell(0, 1, 0), cell(0, 0, HOUR)], [0, 1, 1], statement="book"),
+    PORTAL, execute(), bind([b"yves", cell(0, 2, 0), cell(0, 0, HOUR)], [1], statement="book"), execute(), SYNC,
+    bind([b"yves", b"1 day", cell(1, -29, 0)], [0, 0, 1], statement="book"), execute(), SYNC, ("C", "S", "book"), SYNC,
     *extended("CANCEL $1 $2", [b"zoe", cell(0, 30, 0)], [0, 1]), *extended("CANCEL zoe '5 years'", results=[0]), *extended("SHIFTS"),
     *extended("SHIFTS OF $1", [b"zoe"], [], [1]), *extended("SHIFTS OF $1", [b"zoe"], [1], [0, 1, 0]),
     *extended("SHIFTS OF zoe", results=[1, 0, 1, 1, 1]), *extended("SHIFTS OF $1", [b"o'hara"], [], [2]),
@@ -134,6 +155,10 @@ REFUSED_VALUES = [
     *extended("BOOK $1 '2 days' $2", [b"zoe", cell(0, 1, 0)], [1]), *extended("BOOK zoe $1 '1 day'", [cell(0, 2, 1)], [1]),
     *extended("BOOK ann $1 $2", [cell(0, 9, 0), cell(1, -30, 0)], [1]), *extended("CANCEL $1 $2", [b"zoe", b"2 days 1:00:00"]),
     *extended("SHIFTS", results=[1, 1]), *extended("BOOK $3 $2 $1", [b"zoe"]), *extended("SHIFTS OF 'zoe"), *extended("LET $1", [b"zoe"]),
+    *extended("SHIFTS OF $4", [b"zoe"]), *extended("SHIFTS OF $0", [b"zoe"]), *extended("SHIFTS OF a;b"), *extended("SHIFTS; COMMIT"),
+    *extended("begin"), *extended("CANCEL $1 $2", [b"zoe", b"soon"]), *extended("CANCEL $1 $2", [b"zoe", b"soon"]),
+    *extended("BOOK $1 $2 $3", [None, b"soon"]), *extended("SHIFTS OF $1", [b"\xff"]), *extended("SHIFTS OF $1"), *extended("SHIFTS OF $4"),
+    *extended("LET $1"), *extended("SHIFTS", results=[1, 1]), *extended("BEGIN"), *extended("Commit"),
 ]
 # A portal shows what stood when it was started, whatever is booked, canceled and rolled back behind it, and in a transaction that failed
 # too. Its statement may be another one by then.
@@ -151,7 +176,7 @@ PAGES = [
     execute(), SYNC, execute("again"), SYNC, parse("COMMIT"), bind(), execute(), execute(), SYNC, execute("own", 2), execute("again"), SYNC,
     *asks("BOOK ann '50 days' 1:00"),
 ]
-CONVERSATION = [*BOOKINGS, *CANCELS, *WORDS, *BROKEN, *TRANSACTIONS, *PREPARED, *REFUSED_VALUES, *PAGES, ("X",)]
+CONVERSATION = [*BOOKINGS, *CANCELS, *WORDS, *BROKEN, *ODD_WORDS, *TRANSACTIONS, *FAILED_ONES, *PREPARED, *REFUSED_VALUES, *PAGES, ("X",)]
 
 
 def counted(numbers):
@@ -195,11 +220,22 @@ def meaning_of(query):
     key, behind = " ".join(words[:size]), found[size:]
     if key not in ARGUMENTS or len(behind) != len(ARGUMENTS[key]):
         refuse("42601", OTHER_QUERY)
-    arguments = [token if is_quoted else PARAMETERS.get(token, token) for is_quoted, token in behind]
+    arguments = [token if is_quoted else argument_of(token) for is_quoted, token in behind]
     given = [one for one in arguments if isinstance(one, int)]
     if given != list(range(len(given))):
         refuse("42P02", "parameters stand in their order: $1, $2, $3")
     return key, arguments
+
+
+def argument_of(word):
+    """What a word stands for in the place of an argument."""
+    if word in PARAMETERS:
+        return PARAMETERS[word]
+    if word.startswith("$"):
+        refuse("42P02", f"there is no parameter {word}")
+    if ";" in word:
+        refuse("42601", SEMICOLON)
+    return word
 
 
 def types_of(statement):
@@ -306,10 +342,10 @@ class Session:
     def asked(self, statement, values=(), formats=()):
         """Does what a statement asks: its tag, or the shifts that it shows."""
         key, arguments = statement
-        reads = [name_asked(one, values) if kind == TEXT else interval_asked(one, values, formats)
-                 for kind, one in zip(ARGUMENTS[key], arguments)]
         if self.status == "E" and key not in ("COMMIT", "ROLLBACK"):
             refuse("25P02", FAILED)
+        reads = [name_asked(one, values) if kind == TEXT else interval_asked(one, values, formats)
+                 for kind, one in zip(ARGUMENTS[key], arguments)]
         if key in ("BEGIN", "COMMIT", "ROLLBACK"):
             return self.turned(key)
         seen = self.shifts if self.own is None else self.own

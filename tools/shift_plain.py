@@ -26,11 +26,17 @@ def book(table, name, start, length):
     return "Ok"
 
 
-def cancel(table, name, start):
-    kept = [s for s in table if not (s[0] == name and span(s[1]) == span(start))]
-    found = len(kept) < len(table)
-    table[:] = kept
-    return "Ok" if found else "Unknown"
+def find(table, name, start):
+    return next((s for s in table if s[0] == name and span(s[1]) == span(start)), None)
+
+
+def cancel(table, name, start, length=None):
+    """Cancels this shift; without a length the one of this name and start, however long."""
+    found = find(table, name, start)
+    if not found or length and span(length) != span(found[2]):
+        return "Unknown"
+    table.remove(found)
+    return "Ok"
 
 
 def decided_by_last(table, name, start, length):
@@ -64,6 +70,8 @@ if __name__ == "__main__":
     print(book(table, "bob", (0, 1, 0), (0, 0, 0)))
     print(len(table), sum(1 for s in table if s[0] == "ann"))
     table = []
-    print(book(table, "ann", (1, 0, 0), (0, 1, 0)), cancel(table, "ann", (0, 30, 0)), cancel(table, "ann", (0, 30, 0)), len(table))
+    print(book(table, "ann", (1, 0, 0), (0, 1, 0)), find(table, "ann", (0, 30, 0)))
+    print(cancel(table, "ann", (0, 30, 0), (0, 2, 0)), cancel(table, "ann", (0, 30, 0), (0, 0, 24 * hour)), len(table))
+    print(find(table, "ann", (0, 30, 0)), cancel(table, "ann", (0, 30, 0), (0, 1, 0)))
     print(span((-1, 30, 5)))
     print(try_rule(20_000) > 0)

@@ -57,7 +57,7 @@ def proofs():
 
 def tries():
     """make try, over the programs that were proved alone."""
-    lacking = [crate for crate in NAMES if not proved(crate)]
+    lacking = [crate for crate in [*NAMES, *OVER_HANDLERS] if not proved(crate)]
     for crate in lacking:
         print(f"crates/{crate}/out/{crate} is no program that was proved as the sources stand")
     return (0, len(lacking)) if lacking else counted([sys.executable, "-B", "tools/try_all.py"])

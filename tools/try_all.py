@@ -12,7 +12,8 @@ import time
 
 from programs import NAMES, OVER_HANDLERS, TOP, lines_of_crates, program
 
-# The modules of Debian's Python that scripts need.
+# The system's own Python, and its modules that scripts need.
+PYTHON = "/usr/bin/python3"
 MODULES = ["psycopg"]
 # Each script by its name, with the commands and modules that it needs.
 SCRIPTS = {
@@ -42,8 +43,8 @@ def is_installed(need):
     """Whether a command is installed, or a module."""
     if need not in MODULES:
         return shutil.which(need) is not None
-    told = ["/usr/bin/python3", "-c", f"import {need}"]
-    return shutil.which(told[0]) is not None and subprocess.run(told, stderr=subprocess.DEVNULL, check=False).returncode == 0
+    told = [PYTHON, "-c", f"import {need}"]
+    return shutil.which(PYTHON) is not None and subprocess.run(told, stderr=subprocess.DEVNULL, check=False).returncode == 0
 
 
 def why_skipped(name, needs):

@@ -4,13 +4,16 @@ ghost use Rattle.std.specs.Prelude.{◌≡◌};
 
 use crate::one_client::{OverHandlers, OverService, ServesOne};
 use crate::orders::{Order, order_of};
-use crate::telling::{tell_help, tell_listened, tell_served, tell_usage, tell_version};
+use crate::telling::{
+    tell_help, tell_listened, tell_served, tell_usage, tell_version, tell_written,
+};
 use client_listening::{ClientThreads, ListenError, TURNS, listen_at};
 use client_services::Service;
 use pg_messages::{PgList, PgStr};
 use pg_serve::{ReaderSource, WriterSink};
 use pg_session::PgWireServerHandlers;
 use relation_words::KeyBytes;
+use std::alloc::AllocError;
 use std::env::Env;
 use std::fs::Files;
 use std::io::{Eprint, Input, Write};
@@ -27,9 +30,9 @@ use std::{env, io};
 ///
 /// `listen` serves each connection on a thread of its own, tells `listening on ..` once it waits for
 /// the first one, and waits in the end for the clients that are served. The replies of `serve` go to
-/// `writer`. The status is 0 at a good end, and 2 where the words order nothing. Any other status has
-/// its cause, and comes with a line on standard error, as `--help` tells. The error comes where the
-/// words can't be read, the help or the line of use can't be written, or memory ran out for the words.
+/// `writer`. The status is 0 at a good end, and 2 where the words order nothing, also where they can't
+/// be read. Any other status has its cause, and comes with a line on standard error, as `--help` tells.
+/// There is no error: that the answer could be one is for a `main` that has others.
 pub fn run_program<
     R: Wait
         + Net<Stream = TcpStream, Listener = TcpListener>
@@ -96,32 +99,37 @@ fn run_words<
 >(rt: R, name: &str, one: O, threads: T, writer: W) -> io::Result<ExitCode>
     requires started { T.started threads ≡ 0 }
 {
-    let words = read_words(&rt)?;
-    match order_of(words.as_slice()) {
+    let Ok(words) = read_words(&rt) else {
+        return Ok(tell_listened(&rt, &Err(ListenError::NoMemory)));
+    };
+    Ok(match order_of(words.as_slice()) {
         None => tell_usage(&rt, name),
-        Some(Order::Help) => {
-            tell_help(&rt, name)?;
-            Ok(ExitCode::SUCCESS)
-        }
-        Some(Order::Version) => {
-            tell_version(&rt, name)?;
-            Ok(ExitCode::SUCCESS)
-        }
-        Some(Order::Serve(pid, key)) => Ok(serve_standard(&rt, one, pid, &key, writer)),
+        Some(Order::Help) => tell_written(&rt, tell_help(&rt, name)),
+        Some(Order::Version) => tell_written(&rt, tell_version(&rt, name)),
+        Some(Order::Serve(pid, key)) => serve_standard(&rt, one, pid, &key, writer),
         Some(Order::Listen(place, count)) => {
             let answer = listen_at(rt, place, count, TURNS, threads);
-            Ok(tell_listened(&rt, &answer))
+            tell_listened(&rt, &answer)
         }
-    }
+    })
 }
 
-/// The words of the command line.
-fn read_words<R: Env + AllocGlobal>(rt: &R) -> io::Result<PgList<PgStr>> {
+/// The words of the command line. There are none where they can't be read, for example since one
+/// isn't UTF-8. The only error is want of memory.
+fn read_words<R: Env + AllocGlobal>(rt: &R) -> Result<PgList<PgStr>, AllocError> {
     let mut words = PgList::new(rt.alloc());
-    for word in env::args(rt)?.collect::<Vec<String>>(rt.alloc())? {
-        words.push(PgStr::from_string(word))?;
+    match env::args(rt) {
+        Ok(args) => {
+            for word in args.collect::<Vec<String>>(rt.alloc())? {
+                words.push(PgStr::from_string(word))?;
+            }
+            Ok(words)
+        }
+        Err(error) => match error.kind() {
+            io::ErrorKind::OutOfMemory => Err(AllocError),
+            _ => Ok(words),
+        },
     }
-    Ok(words)
 }
 
 /// Serves the client on standard input, whose replies go to the writer.

@@ -45,12 +45,25 @@ pub(crate) fn tell_version(rt: &impl Print, name: &str) -> io::Result<()> {
     println!(rt; "{name} 0.1.0")
 }
 
-/// Tells standard error how the words are used.
-pub(crate) fn tell_usage(rt: &impl Eprint, name: &str) -> io::Result<ExitCode> {
-    eprintln!(rt;
+/// Tells standard error that a text could not be written to standard output, where it couldn't, and
+/// gives the status.
+pub(crate) fn tell_written(rt: &impl Eprint, written: io::Result<()>) -> ExitCode {
+    match written {
+        Ok(()) => ExitCode::SUCCESS,
+        Err(error) => match error.kind() {
+            io::ErrorKind::OutOfMemory => tell(rt, Some((7, "out of memory"))),
+            _ => tell(rt, Some((5, "write fault"))),
+        },
+    }
+}
+
+/// Tells standard error how the words are used, and gives the status. It is the same where the line
+/// can't be written.
+pub(crate) fn tell_usage(rt: &impl Eprint, name: &str) -> ExitCode {
+    let _written = eprintln!(rt;
         "usage: {name} serve PID KEY, listen [tcp] PORT [COUNT], listen unix PATH [COUNT]"
-    )?;
-    Ok(ExitCode::from(2))
+    );
+    ExitCode::from(2)
 }
 
 /// The status of how a client was served, and the line that comes with it.

@@ -12,6 +12,8 @@ mod acceptor_tests;
 #[cfg(test)]
 mod adapter_tests;
 #[cfg(test)]
+mod copy_tests;
+#[cfg(test)]
 mod held_tests;
 #[cfg(test)]
 mod key_tests;

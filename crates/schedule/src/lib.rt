@@ -4,5 +4,8 @@
 mod laws;
 mod schedule;
 
-pub use laws::{bookings_are_told_in_order, no_two_shifts_clash};
+pub use laws::{
+    bookings_are_told_in_order, no_two_shifts_clash, outcomes_are_replied,
+    transactions_are_told_in_order, transactions_see_their_own,
+};
 pub use schedule::Schedule;

@@ -1,27 +1,26 @@
 //! The schedule, as it lies under the lock.
 
-ghost use Rattle.std.specs.Prelude.{◌≡◌, ◌≢◌, [], Some, Ok, Err, IfOk, IfErr, OnErr};
+ghost use Rattle.std.specs.Prelude.{◌≡◌, ◌≢◌, Some, Ok, Err, IfOk, OnErr};
 ghost use Rattle.std.specs.Arc.{arc_value};
 ghost use Rattle.pg_results.specs.Rows.{IsAnswerableItem};
-ghost use Rattle.pg_results.specs.Told.{IsOutcome};
 ghost use Rattle.pg_results.specs.declared.error.PgWireError.TheVariants as wire;
 ghost use Rattle.shared_worlds.specs.Worlds.{moved_by};
 ghost use Rattle.shift_sheets.specs.Answers.{said, told_error};
 ghost use Rattle.shift_sheets.specs.Sheets.{shift_sheet};
 ghost use Rattle.shift_transactions.specs.Doing.{done};
 ghost use Rattle.shift_transactions.specs.Steps.{changed};
-ghost use Rattle.schedule.specs.World.{has_failed, met_done, order_of_text};
+ghost use Rattle.schedule.specs.World.{ends_transaction, has_failed, met_by, met_done, order_in};
 
 use asked_queries::{Asked, asked_by};
 use pg_client::Client;
-use pg_messages::{PgWireFrontendMessage, TransactionStatus};
+use pg_messages::{PgBytes, PgWireFrontendMessage, TransactionStatus};
 use pg_portal::{Format, OnDemand, PgWireError, PortalStore};
 use shared_worlds::SharedWorld;
 use shift_orders::{ShiftOrder, ShiftStatement, order_of, parse_statement};
 use shift_rows::ShiftRows;
 use shift_sheets::{Answer, Sheets, ShiftSheet};
 use shift_table::ShiftTable;
-use shift_transactions::{Steps, Transaction, do_order};
+use shift_transactions::{Refusal, Steps, Transaction, do_order};
 use std::alloc::{AllocError, Global};
 use std::marker::Model;
 use std::sync::Arc;
@@ -31,20 +30,15 @@ use std::sync::Arc;
 pub struct Schedule {
     table: ShiftTable,
     sheets: Sheets,
-    nothing: Arc<ShiftSheet>,
 }
 
 impl Model for Schedule {
-    ghost use Rattle.std.specs.Prelude.{◌≡◌, List};
-    ghost use Rattle.std.specs.Arc.{arc_value};
+    ghost use Rattle.std.specs.Prelude.{List};
     ghost use Rattle.shift_table.specs.declared.shift.Shift.{Shift};
-    ghost use Rattle.shift_sheets.specs.declared.answer.Answer.TheVariants as answer;
 
     ghost Value = { List Shift };
 
     ghost view = { λ s. s.table };
-
-    ghost invariant = { λ s. arc_value s.nothing ≡ answer.Nothing };
 }
 
 impl SharedWorld for Schedule {
@@ -68,7 +62,6 @@ impl SharedWorld for Schedule {
         Ok(Schedule {
             table: ShiftTable::new(alloc),
             sheets: Sheets::new(alloc)?,
-            nothing: ShiftSheet::new(alloc, Answer::Nothing)?,
         })
     }
 
@@ -87,19 +80,23 @@ impl SharedWorld for Schedule {
         client: &Client<St>,
         message: &PgWireFrontendMessage,
     ) -> Result<(Arc<ShiftSheet>, Option<Steps>), AllocError> {
-        let order = match asked_by(client, message) {
-            Asked::Nothing => return Ok((Arc::try_clone(&self.nothing)?, None)),
-            Asked::Simple(query) => order_of_text(alloc, query),
-            Asked::Extended(portal) => order_of(
+        let failed = has_failed(client.info.status);
+        match asked_by(client, message) {
+            Asked::Nothing => Ok((self.sheets.nothing()?, None)),
+            Asked::Simple(query) => match parse_statement(alloc, query) {
+                Ok(statement) => {
+                    self.meet_statement(alloc, own, failed, &statement, &[], &Format::UnifiedText)
+                }
+                Err(error) => Ok((sheet_of_error(alloc, error)?, None)),
+            },
+            Asked::Extended(portal) => self.meet_statement(
                 alloc,
+                own,
+                failed,
                 &portal.statement.statement,
                 portal.parameters.as_slice(),
                 &portal.parameter_format,
             ),
-        };
-        match order {
-            Ok(order) => self.obey(alloc, own, has_failed(client.info.status), order),
-            Err(error) => Ok((sheet_of_error(alloc, error)?, None)),
         }
     }
 
@@ -109,6 +106,36 @@ impl SharedWorld for Schedule {
 }
 
 impl Schedule {
+    /// Does what a statement asks with its parameters, and gives the sheet that tells it. The only error
+    /// is running out of memory, and then all is as it was.
+    fn meet_statement(
+        &mut self,
+        alloc: Global,
+        own: &mut Option<Transaction>,
+        has_failed: bool,
+        statement: &ShiftStatement,
+        parameters: &[Option<PgBytes>],
+        formats: &Format,
+    ) -> Result<(Arc<ShiftSheet>, Option<Steps>), AllocError>
+        ensures met { IfOk result (λ r. record {
+          change = r.1;
+          own = own.new;
+          told = shift_sheet (said (arc_value r.0));
+        } ≡ met_by self.old own.old has_failed
+            (Some (order_in has_failed statement.now parameters.now formats.now))) }
+        ensures moved { IfOk result (λ r. self.new ≡ moved_by changed self.old r.1) }
+        ensures place { OnErr result (self.new ≡ self.old) }
+        ensures own { OnErr result (own.new ≡ own.old) }
+    {
+        if has_failed && !ends_transaction(statement) {
+            return Ok((self.sheets.refused(Refusal::Failed)?, None));
+        }
+        match order_of(alloc, statement, parameters, formats) {
+            Ok(order) => self.obey(alloc, own, has_failed, order),
+            Err(error) => Ok((sheet_of_error(alloc, error)?, None)),
+        }
+    }
+
     /// Does what an order asks, and gives the sheet that tells it. The only error is running out of
     /// memory, and then all is as it was.
     fn obey(
@@ -127,9 +154,9 @@ impl Schedule {
         ensures place { OnErr result (self.new ≡ self.old) }
         ensures own { OnErr result (own.new ≡ own.old) }
     {
-        let sheets = self.sheets.share()?;
+        let sheets = self.sheets.for_order(has_failed, &order)?;
         let (change, outcome) = do_order(alloc, &mut self.table, own, has_failed, order)?;
-        Ok((sheets.sheet_of(alloc, outcome)?, change))
+        Ok((sheets.sheet_of(alloc, &self.sheets, outcome)?, change))
     }
 }
 
@@ -140,13 +167,11 @@ fn has_failed(status: TransactionStatus) -> bool
     status == TransactionStatus::Error
 }
 
-/// The order of a simple query, which has no parameters.
-fn order_of_text(alloc: Global, query: &str) -> Result<ShiftOrder, PgWireError>
-    ensures outcome { IsOutcome (order_of_text query.now) result }
-    ensures answerable { IfErr result IsAnswerableItem }
+/// Whether a statement ends a transaction.
+fn ends_transaction(statement: &ShiftStatement) -> bool
+    ensures { result ≡ ends_transaction statement.now }
 {
-    let statement = parse_statement(alloc, query)?;
-    order_of(alloc, &statement, &[], &Format::UnifiedText)
+    matches!(statement, ShiftStatement::Commit | ShiftStatement::Rollback)
 }
 
 /// The sheet of an error. The only error is running out of memory, as `NoMemory` tells too.

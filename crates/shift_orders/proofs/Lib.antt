@@ -1,2 +1,4 @@
 pub mod Scanning
 pub mod Sendable
+pub mod ShortWords
+pub mod Meanings

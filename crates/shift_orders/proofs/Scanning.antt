@@ -10,7 +10,7 @@ use Rattle.pg_results.specs.Describing.{is_empty_list}
 use Rattle.pg_results.specs.Texts.{is_whitespace}
 use Rattle.query_texts.specs.QueryTexts.{words}
 use Rattle.shift_orders.specs.Tokens.{is_quote, quoted, tokens, tokens_in}
-use Rattle.shift_orders.specs.Stops.{BeginsWord, IsTrimmedInFront, ends_word, tokens_within, within}
+use Rattle.shift_orders.specs.Stops.{BeginsWord, HasNoWord, IsTrimmedInFront, ends_word, tokens_within, within}
 use Rattle.shift_orders.specs.declared.tokens.Token.{Token}
 use Rattle.shift_orders.specs.declared.tokens.Token.TheVariants.{Word, Quoted}
 
@@ -218,6 +218,16 @@ quoted_first text ([] ∷ inside ∷ behind) [] = record { content = text; later
 quoted_first text ([] ∷ inside ∷ behind) (Word w ∷ later) = record { content = text; later = Word w ∷ later; is = refl }
 quoted_first text ([] ∷ inside ∷ behind) (Quoted next ∷ later) = record { content = text ++ 39 ∷ next; later = later; is = refl }
 quoted_first text ((x ∷ xs) ∷ behind) later = record { content = text; later = later; is = refl }
+
+-- so no word stands in front of a text that begins with a quote
+pub no_word : (rest : List ℕ) → HasNoWord (tokens (39 ∷ rest))
+no_word rest = subst HasNoWord (sym (opened rest)) (by_parts (parted is_quote rest))
+  where
+    by_first : (q : List ℕ) (qs : List (List ℕ)) → IsQuotedFirst (quoted q qs (tokens_in qs)) → HasNoWord (within (q ∷ qs))
+    by_first q qs f = rw f.is tt
+
+    by_parts : Parted is_quote rest → HasNoWord (tokens_within rest)
+    by_parts p = rw p.parts (by_first p.first p.behind (quoted_first p.first p.behind (tokens_in p.behind)))
 
 pub onto_nothing : (text : List ℕ) → onto_quoted [] (tokens_within text) ≡ tokens_within text
 onto_nothing text = by_parts (parted is_quote text)

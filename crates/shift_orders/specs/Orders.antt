@@ -37,7 +37,7 @@ name_of_other_length = wire.UserError (error (codes "22023") (codes "a name has 
 -- ---- values
 
 -- what follows from a value; an error stays itself
-abbrev pub and_then : {A B : Type 0} → Result A PgWireError → (A → Result B PgWireError) → Result B PgWireError
+abbrev pub and_then : {A B E : Type 0} → Result A E → (A → Result B E) → Result B E
 and_then (Ok value) next = next value
 and_then (Err e) next = Err e
 

@@ -1,9 +1,10 @@
 //! What the text of a query means.
 
-ghost use Rattle.std.specs.Prelude.{◌≡◌, [], ◌∷◌, map, IsNone, IfOk, IfErr, IfSome};
+ghost use Rattle.std.specs.Prelude.{◌≡◌, [], ◌∷◌, IfOk, IfErr};
 ghost use Rattle.pg_results.specs.Rows.{IsAnswerableItem};
+ghost use Rattle.pg_results.specs.Texts.{IsShortText};
 ghost use Rattle.pg_results.specs.Told.{IsOutcome};
-ghost use Rattle.shift_orders.specs.Statements.{argument_of, arguments, in_order, parameters, ordered, booking, canceling, listing, listing_of, is_key, alone, statement_of, meaning_of, no_statement};
+ghost use Rattle.shift_orders.specs.Statements.{argument_of, arguments, in_order, parameters, ordered, booking, canceling, listing, listing_of, is_key, alone, statement_of, meaning, meaning_of, text_of, no_statement, unknown_parameter};
 
 use crate::tokens::{Token, Tokens, is_ended};
 use pg_messages::PgStr;
@@ -50,16 +51,25 @@ pub enum ShiftStatement {
 }
 
 /// What a query means, without whitespace and semicolons at both ends. Key words stand in any ASCII
-/// case. An argument is a quoted text, in which `''` stands for one quote, or a word; the words `$1`,
-/// `$2` and `$3` are parameters.
+/// case. An argument is a quoted text, in which `''` stands for one quote, or a word, which stands for
+/// its own text. The words `$1`, `$2` and `$3` are parameters.
 ///
-/// The error is 42601 for any other query, and for a quote that isn't ended; 42P02 where the
-/// parameters don't stand in their order; or `NoMemory`.
+/// The error is 42601 for a quote that isn't ended, and then for any other query, by its key words and
+/// the number of its arguments. Each argument is looked at in turn: 42P02 for any other word that
+/// begins with `$`, and 42601 for any other word with a semicolon in it. At last it is 42P02 where the
+/// parameters don't stand in their order, each once. Or it is `NoMemory`.
+#[tactic(auto, using(crate::proofs::Meanings::meaning_answerable))]
 pub fn parse_statement(alloc: Global, query: &str) -> Result<ShiftStatement, PgWireError>
     ensures outcome { IsOutcome (meaning_of query.now) result }
-    ensures answerable { IfErr result IsAnswerableItem }
+    ensures answerable { IsShortText query.now → IfErr result IsAnswerableItem }
 {
-    let text = trimmed(query);
+    meaning(alloc, trimmed(query))
+}
+
+/// What a text without padding means.
+fn meaning(alloc: Global, text: &str) -> Result<ShiftStatement, PgWireError>
+    ensures { IsOutcome (meaning text.now) result }
+{
     if !is_ended(text) {
         return Err(user_error(alloc, "42601", "a quote isn't ended")?);
     }
@@ -68,23 +78,22 @@ pub fn parse_statement(alloc: Global, query: &str) -> Result<ShiftStatement, PgW
 
 /// The statement that tokens are.
 fn statement_of(alloc: Global, mut tokens: Tokens<'_>) -> Result<ShiftStatement, PgWireError>
-    ensures outcome { IsOutcome (statement_of tokens.entry) result }
-    ensures answerable { IfErr result IsAnswerableItem }
+    ensures { IsOutcome (statement_of tokens.entry) result }
 {
-    let Some(key) = tokens.next(alloc)? else {
+    let Some(key) = tokens.next_word() else {
         return no_statement(alloc);
     };
-    if is_key(&key, "BOOK") {
+    if key.eq_ignore_ascii_case("BOOK") {
         booking(alloc, tokens)
-    } else if is_key(&key, "CANCEL") {
+    } else if key.eq_ignore_ascii_case("CANCEL") {
         canceling(alloc, tokens)
-    } else if is_key(&key, "SHIFTS") {
+    } else if key.eq_ignore_ascii_case("SHIFTS") {
         listing(alloc, tokens)
-    } else if is_key(&key, "BEGIN") {
+    } else if key.eq_ignore_ascii_case("BEGIN") {
         alone(alloc, ShiftStatement::Begin, tokens)
-    } else if is_key(&key, "COMMIT") {
+    } else if key.eq_ignore_ascii_case("COMMIT") {
         alone(alloc, ShiftStatement::Commit, tokens)
-    } else if is_key(&key, "ROLLBACK") {
+    } else if key.eq_ignore_ascii_case("ROLLBACK") {
         alone(alloc, ShiftStatement::Rollback, tokens)
     } else {
         no_statement(alloc)
@@ -103,50 +112,54 @@ fn is_key(token: &Token, key: &str) -> bool
 
 /// The statement of what stands behind BOOK.
 fn booking(alloc: Global, mut tokens: Tokens<'_>) -> Result<ShiftStatement, PgWireError>
-    ensures outcome { IsOutcome (booking (map argument_of tokens.entry)) result }
-    ensures answerable { IfErr result IsAnswerableItem }
+    ensures { IsOutcome (booking tokens.entry) result }
 {
-    let Some(name) = next_argument(alloc, &mut tokens)? else {
+    let Some(name) = tokens.next(alloc)? else {
         return no_statement(alloc);
     };
-    let Some(start) = next_argument(alloc, &mut tokens)? else {
+    let Some(start) = tokens.next(alloc)? else {
         return no_statement(alloc);
     };
-    let Some(length) = next_argument(alloc, &mut tokens)? else {
+    let Some(length) = tokens.next(alloc)? else {
         return no_statement(alloc);
     };
-    let statement = ShiftStatement::Book {
-        name,
-        start,
-        length,
-    };
-    match next_argument(alloc, &mut tokens)? {
-        Some(_) => no_statement(alloc),
-        None => ordered(alloc, statement),
+    if tokens.next(alloc)?.is_some() {
+        return no_statement(alloc);
     }
+    let name = argument_of(alloc, name)?;
+    let start = argument_of(alloc, start)?;
+    let length = argument_of(alloc, length)?;
+    ordered(
+        alloc,
+        ShiftStatement::Book {
+            name,
+            start,
+            length,
+        },
+    )
 }
 
 /// The statement of what stands behind CANCEL.
 fn canceling(alloc: Global, mut tokens: Tokens<'_>) -> Result<ShiftStatement, PgWireError>
-    ensures outcome { IsOutcome (canceling (map argument_of tokens.entry)) result }
-    ensures answerable { IfErr result IsAnswerableItem }
+    ensures { IsOutcome (canceling tokens.entry) result }
 {
-    let Some(name) = next_argument(alloc, &mut tokens)? else {
+    let Some(name) = tokens.next(alloc)? else {
         return no_statement(alloc);
     };
-    let Some(start) = next_argument(alloc, &mut tokens)? else {
+    let Some(start) = tokens.next(alloc)? else {
         return no_statement(alloc);
     };
-    match next_argument(alloc, &mut tokens)? {
-        Some(_) => no_statement(alloc),
-        None => ordered(alloc, ShiftStatement::Cancel { name, start }),
+    if tokens.next(alloc)?.is_some() {
+        return no_statement(alloc);
     }
+    let name = argument_of(alloc, name)?;
+    let start = argument_of(alloc, start)?;
+    ordered(alloc, ShiftStatement::Cancel { name, start })
 }
 
 /// The statement of what stands behind SHIFTS.
 fn listing(alloc: Global, mut tokens: Tokens<'_>) -> Result<ShiftStatement, PgWireError>
-    ensures outcome { IsOutcome (listing tokens.entry) result }
-    ensures answerable { IfErr result IsAnswerableItem }
+    ensures { IsOutcome (listing tokens.entry) result }
 {
     let Some(of) = tokens.next(alloc)? else {
         return Ok(ShiftStatement::Shifts);
@@ -160,16 +173,16 @@ fn listing(alloc: Global, mut tokens: Tokens<'_>) -> Result<ShiftStatement, PgWi
 
 /// The statement of what stands behind SHIFTS OF.
 fn listing_of(alloc: Global, mut tokens: Tokens<'_>) -> Result<ShiftStatement, PgWireError>
-    ensures outcome { IsOutcome (listing_of (map argument_of tokens.entry)) result }
-    ensures answerable { IfErr result IsAnswerableItem }
+    ensures { IsOutcome (listing_of tokens.entry) result }
 {
-    let Some(name) = next_argument(alloc, &mut tokens)? else {
+    let Some(name) = tokens.next(alloc)? else {
         return no_statement(alloc);
     };
-    match next_argument(alloc, &mut tokens)? {
-        Some(_) => no_statement(alloc),
-        None => ordered(alloc, ShiftStatement::ShiftsOf { name }),
+    if tokens.next(alloc)?.is_some() {
+        return no_statement(alloc);
     }
+    let name = argument_of(alloc, name)?;
+    ordered(alloc, ShiftStatement::ShiftsOf { name })
 }
 
 /// The statement of one word, where nothing stands behind it.
@@ -178,8 +191,7 @@ fn alone(
     statement: ShiftStatement,
     mut tokens: Tokens<'_>,
 ) -> Result<ShiftStatement, PgWireError>
-    ensures outcome { IsOutcome (alone statement tokens.entry) result }
-    ensures answerable { IfErr result IsAnswerableItem }
+    ensures { IsOutcome (alone statement tokens.entry) result }
 {
     match tokens.next(alloc)? {
         Some(_) => no_statement(alloc),
@@ -189,45 +201,54 @@ fn alone(
 
 /// The error of any other query.
 fn no_statement(alloc: Global) -> Result<ShiftStatement, PgWireError>
-    ensures outcome { IsOutcome (Err no_statement) result }
-    ensures answerable { IfErr result IsAnswerableItem }
+    ensures { IsOutcome (Err no_statement) result }
 {
     let message =
         "a query is BOOK name start length, CANCEL name start, SHIFTS, SHIFTS OF name, BEGIN, COMMIT or ROLLBACK";
     Err(user_error(alloc, "42601", message)?)
 }
 
-/// Takes the first token, as an argument; None where there is none.
-fn next_argument(alloc: Global, tokens: &mut Tokens<'_>) -> Result<Option<Argument>, AllocError>
-    ensures none { IfOk result (λ argument. IsNone argument → tokens.old ≡ []) }
-    ensures some { IfOk result (λ argument. IfSome argument (λ a.
-        map argument_of tokens.old ≡ a ∷ map argument_of tokens.new)) }
-{
-    match tokens.next(alloc)? {
-        Some(token) => Ok(Some(argument_of(token))),
-        None => Ok(None),
-    }
-}
-
 /// The argument that a token is.
-fn argument_of(token: Token) -> Argument
-    ensures { result ≡ argument_of token }
+fn argument_of(alloc: Global, token: Token) -> Result<Argument, PgWireError>
+    ensures { IsOutcome (argument_of token) result }
 {
     match token {
         Token::Word(word) => match word.as_str() {
-            "$1" => Argument::Parameter(0),
-            "$2" => Argument::Parameter(1),
-            "$3" => Argument::Parameter(2),
-            _ => Argument::Text(word),
+            "$1" => Ok(Argument::Parameter(0)),
+            "$2" => Ok(Argument::Parameter(1)),
+            "$3" => Ok(Argument::Parameter(2)),
+            _ => text_of(alloc, word),
         },
-        Token::Quoted(text) => Argument::Text(text),
+        Token::Quoted(text) => Ok(Argument::Text(text)),
     }
+}
+
+/// What a word that is no parameter stands for.
+fn text_of(alloc: Global, word: PgStr) -> Result<Argument, PgWireError>
+    ensures { IsOutcome (text_of word) result }
+{
+    let bytes = word.as_str().as_bytes();
+    if bytes.starts_with(b"$") {
+        return Err(unknown_parameter(alloc, word.as_str())?);
+    }
+    if bytes.contains(&b';') {
+        let message = "a text with a semicolon stands in quotes";
+        return Err(user_error(alloc, "42601", message)?);
+    }
+    Ok(Argument::Text(word))
+}
+
+/// The error of a word that is a parameter by its first byte, and none that is known.
+fn unknown_parameter(alloc: Global, word: &str) -> Result<PgWireError, AllocError>
+    ensures { IfOk result (λ e. e ≡ unknown_parameter word.now) }
+{
+    let message = format!(in alloc; "there is no parameter {word}")?;
+    user_error(alloc, "42P02", message.as_str())
 }
 
 /// The statement, where its parameters stand in their order.
 fn ordered(alloc: Global, statement: ShiftStatement) -> Result<ShiftStatement, PgWireError>
-    ensures outcome { IsOutcome (ordered statement) result }
-    ensures answerable { IfErr result IsAnswerableItem }
+    ensures { IsOutcome (ordered statement) result }
 {
     if are_in_order(&statement) {
         Ok(statement)

@@ -5,7 +5,7 @@ use std::alloc::{AllocError, Global};
 use std::test::Fail;
 
 /// Queries, and what they mean: the arguments of a statement, or the code of an error.
-const TEXTS: [(&str, &str); 18] = [
+const TEXTS: [(&str, &str); 29] = [
     ("BOOK ann P1D '8 hours'", "book <ann> <P1D> <8 hours>"),
     (" book\t'ann'  $1\n$2;; ", "book <ann> $1 $2"),
     ("Book'O''Neil'1:00 '2:00'", "book <O'Neil> <1:00> <2:00>"),
@@ -13,12 +13,23 @@ const TEXTS: [(&str, &str); 18] = [
     ("cancel $1 $2", "cancel $1 $2"),
     ("SHIFTS", "shifts"),
     ("shifts of '$1'", "shifts of <$1>"),
-    ("SHIFTS OF $4", "shifts of <$4>"),
+    ("SHIFTS OF 'ann;COMMIT'", "shifts of <ann;COMMIT>"),
     ("Begin;", "begin"),
     ("COMMIT", "commit"),
     ("ROLLBACK", "rollback"),
     ("BOOK $2 $1 $3", "42P02"),
     ("CANCEL $2 'x'", "42P02"),
+    ("SHIFTS OF $4", "42P02"),
+    ("SHIFTS OF $0", "42P02"),
+    ("SHIFTS OF $x", "42P02"),
+    ("SHIFTS OF $", "42P02"),
+    ("CANCEL ann $9;", "42P02"),
+    ("CANCEL $a;b 1:00", "42P02"),
+    ("BOOK ann $10 1;00", "42P02"),
+    ("SHIFTS OF ann;COMMIT", "42601"),
+    ("BOOK ann 1;00 $10", "42601"),
+    ("BOOK a b c d $9", "42601"),
+    ("BOOK $9 b;c", "42601"),
     ("SHIFTS 'OF' ann", "42601"),
     ("'SHIFTS'", "42601"),
     ("BOOK ann 1:00", "42601"),

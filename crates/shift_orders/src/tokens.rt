@@ -4,7 +4,7 @@ ghost use Rattle.std.specs.Prelude.{◌≡◌, [], ◌∷◌, IsNone, IfOk, IfSo
 ghost use Rattle.std.specs.Str.{IsCharBoundary};
 ghost use Rattle.pg_results.specs.Texts.{is_whitespace};
 ghost use Rattle.shift_orders.specs.Tokens.{is_ended, tokens};
-ghost use Rattle.shift_orders.specs.Stops.{IsTrimmedInFront, BeginsWord, ends_word, tokens_within};
+ghost use Rattle.shift_orders.specs.Stops.{IsTrimmedInFront, BeginsWord, HasNoWord, ends_word, tokens_within};
 
 use pg_messages::PgStr;
 use std::alloc::{AllocError, Global};
@@ -41,6 +41,23 @@ impl<'a> Tokens<'a> {
         ensures { result ≡ tokens text.now }
     {
         Tokens { rest: text }
+    }
+
+    /// Takes the first token, where it is a word. None where it is none, or no token is left.
+    pub(crate) fn next_word(&mut self) -> Option<&'a str>
+        ensures word { IfSome result (λ word. self.old ≡ Token.Word word.now ∷ self.new) }
+        ensures none { IsNone result → HasNoWord self.old }
+    {
+        let text = &self.rest[front_whitespace(self.rest)..];
+        if text.is_empty() {
+            return None;
+        }
+        if let Some(_) = text.strip_prefix('\'') {
+            return None;
+        }
+        let len = word_len(text);
+        self.rest = &text[len..];
+        Some(&text[..len])
     }
 
     /// Takes the first token; None where there is none.

@@ -71,8 +71,3 @@ said answer.Nothing = Err nothing_asked
 abbrev pub CanBeTold : Answer → Type 0
 CanBeTold (answer.Error info) = IsItemError (wire.UserError info)
 CanBeTold _ = Unit {0}
-
--- shifts are shown
-abbrev pub Shows : Outcome → Type 0
-Shows (outcome.Shown shifts) = Unit {0}
-Shows _ = ⊥

@@ -10,4 +10,4 @@ mod sheets;
 pub use answer::Answer;
 pub use parser::ShiftParser;
 pub use sheet::ShiftSheet;
-pub use sheets::Sheets;
+pub use sheets::{OrderSheets, Sheets};

@@ -1,13 +1,13 @@
 -- One entry less in a table, and the entries of one name.
-use Rattle.std.proofs.Common.{◌≡◌, ℕ, ℤ, ◌≤ℤ◌, Bool, true, false, cond, not, ◌&&◌, ◌||◌, List, [], ◌∷◌, Option, Some, is_some, is_eq, is_lt, is_le, nat_cmp, int_cmp, int_eq, Ordering, Less, Equal, Greater, refl, sym, ap, ◌∙◌, subst, pos, negsuc, ◌^◌, arith}
+use Rattle.std.proofs.Common.{◌≡◌, ℕ, ℤ, ◌≤ℤ◌, Bool, true, false, cond, not, ◌&&◌, List, [], ◌∷◌, is_eq, is_lt, is_le, nat_cmp, int_cmp, int_eq, Ordering, Less, Equal, Greater, refl, sym, ap, ◌∙◌, subst, pos, negsuc, ◌^◌, arith}
 use Rattle.std.specs.Ordering.{ordering_then}
 use Rattle.std.specs.Cmp.Lexicographic.{slice_cmp, pointwise, texts_ties, same_text}
 use Rattle.std.specs.Prelude.{nat_eq}
 use Rattle.std.specs.BTreeMap.{is_at}
 use Rattle.std.specs.BTreeMap.Range.{range_contains, entries_between}
 use Rattle.std.specs.declared.ops.Bound.TheVariants.{Included}
-use Rattle.std.specs.Map.{keys_of, lookup, remove_entry}
-use Rattle.std.specs.List.{AllByRecursion, IsDistinct, filter, list_any}
+use Rattle.std.specs.Map.{keys_of, remove_entry}
+use Rattle.std.specs.List.{AllByRecursion, IsDistinct, filter}
 use Rattle.std.specs.List.Sorted.{IsStrictlySortedBy}
 use Rattle.std.proofs.lemmas.List.Elements.{All-from_recursion, recursion_from_All}
 use Rattle.std.proofs.lemmas.Map.Keys.{IsDistinct-head, IsDistinct-tail, IsDistinct-from_apart}
@@ -31,30 +31,14 @@ then_is_eq Equal p = refl
 then_is_eq Greater p = refl
 
 -- a key that is the place of a name and a moment hits the entries that stand there
-hits : (k : Place) (start : Interval) (e : Place × Hours) → k.start ≡ span_of start → IsKeyed e → is_at (place_cmp k) e.0 ≡ stands_at k.name start (shift_at e)
+pub hits : (k : Place) (start : Interval) (e : Place × Hours) → k.start ≡ span_of start → IsKeyed e → is_at (place_cmp k) e.0 ≡ stands_at k.name start (shift_at e)
 hits k start e m h =
     then_is_eq (slice_cmp nat_cmp k.name e.0.name) (int_cmp k.start e.0.start)
     ∙ ap (λ b. b && int_eq k.start e.0.start) (sym (texts_ties k.name e.0.name))
     ∙ ap (λ z. pointwise nat_eq k.name e.0.name && int_eq z e.0.start) m
     ∙ ap (λ z. pointwise nat_eq k.name e.0.name && int_eq (span_of start) z) h.moment
 
-some_or : (b : Bool) (v : Hours) (o : Option Hours) → is_some (cond b (Some v) o) ≡ (b || is_some o)
-some_or true v o = refl
-some_or false v o = refl
-
-found : (es : List (Place × Hours)) (k : Place) (start : Interval) → k.start ≡ span_of start → AllByRecursion IsKeyed es
-    → is_some (lookup (is_at (place_cmp k)) es) ≡ list_any (stands_at k.name start) (shifts_in es)
-found [] k start m h = refl
-found (e ∷ es) k start m h =
-    some_or (is_at (place_cmp k) e.0) e.1 (lookup (is_at (place_cmp k)) es)
-    ∙ ap (λ b. b || is_some (lookup (is_at (place_cmp k)) es)) (hits k start e m h.0)
-    ∙ ap (λ b. stands_at k.name start (shift_at e) || b) (found es k start m h.1)
-
-pub is_some-lookup : (es : List (Place × Hours)) (k : Place) (start : Interval) → k.start ≡ span_of start → IsKept es
-    → is_some (lookup (is_at (place_cmp k)) es) ≡ list_any (stands_at k.name start) (shifts_in es)
-is_some-lookup es k start m h = found es k start m (recursion_from_All IsKeyed es h.keyed)
-
-at_is : (o : Ordering) → is_eq o ≡ true → o ≡ Equal
+pub at_is : (o : Ordering) → is_eq o ≡ true → o ≡ Equal
 at_is Less e = cc
 at_is Equal e = refl
 at_is Greater e = cc
@@ -77,18 +61,23 @@ true_or_false : (b : Bool) → b ≡ true → b ≡ false → ⊥
 true_or_false b t f = cc
 
 -- what doesn't clash with the shift at the place doesn't stand there
-none_later : (es : List (Place × Hours)) (s : Shift) (k : Place) (start : Interval) → stands_at k.name start s ≡ true → Lasts s
-    → AllByRecursion (λ y. clashes s y ≡ false) (shifts_in es) → AllByRecursion Lasts (shifts_in es) → canceled (shifts_in es) k.name start ≡ shifts_in es
-none_later [] s k start here lasts apart l = refl
+pub none_later : (es : List (Place × Hours)) (s : Shift) (k : Place) (start : Interval) → stands_at k.name start s ≡ true → Lasts s
+    → AllByRecursion (λ y. clashes s y ≡ false) (shifts_in es) → AllByRecursion Lasts (shifts_in es)
+    → AllByRecursion (λ y. stands_at k.name start y ≡ false) (shifts_in es)
+none_later [] s k start here lasts apart l = tt
 none_later (e ∷ es) s k start here lasts apart l =
-    let one = stands_so k start s here in
-    let not_here : stands_at k.name start (shift_at e) ≡ false =
-    not_true (stands_at k.name start (shift_at e))
-    (λ there. let other = stands_so k start (shift_at e) there in
-    true_or_false (clashes s (shift_at e)) (same_place_clashes s (shift_at e) (sym one.0 ∙ other.0) (sym one.1 ∙ other.1) lasts l.0) apart.0)
-    in
-    ap (λ b. cond (not b) (shift_at e ∷ canceled (shifts_in es) k.name start) (canceled (shifts_in es) k.name start)) not_here
-    ∙ ap (λ r. shift_at e ∷ r) (none_later es s k start here lasts apart.1 l.1)
+    let one = stands_so k start s here in (
+      not_true (stands_at k.name start (shift_at e))
+          (λ there. let other = stands_so k start (shift_at e) there in
+          true_or_false (clashes s (shift_at e)) (same_place_clashes s (shift_at e) (sym one.0 ∙ other.0) (sym one.1 ∙ other.1) lasts l.0) apart.0),
+      none_later es s k start here lasts apart.1 l.1,
+    )
+
+none_canceled : (t : List Shift) (name : List ℕ) (start : Interval) → AllByRecursion (λ y. stands_at name start y ≡ false) t → canceled t name start ≡ t
+none_canceled [] name start n = refl
+none_canceled (x ∷ xs) name start n =
+    ap (λ b. cond (not b) (x ∷ canceled xs name start) (canceled xs name start)) n.0
+    ∙ ap (λ r. x ∷ r) (none_canceled xs name start n.1)
 
 one_less : (b : Bool) (k : Place) (start : Interval) (e : Place × Hours) (es : List (Place × Hours)) → is_at (place_cmp k) e.0 ≡ b
     → stands_at k.name start (shift_at e) ≡ b → (b ≡ true → canceled (shifts_in es) k.name start ≡ shifts_in es)
@@ -107,7 +96,8 @@ removed_shifts : (es : List (Place × Hours)) (k : Place) (start : Interval) →
 removed_shifts [] k start m h d l = refl
 removed_shifts (e ∷ es) k start m h d l =
     one_less (is_at (place_cmp k) e.0) k start e es refl (sym (hits k start e m h.0))
-    (λ at. none_later es (shift_at e) k start (sym (hits k start e m h.0) ∙ at) l.0 (IsDistinct-head clashes (shift_at e) (shifts_in es) d) l.1)
+    (λ at. none_canceled (shifts_in es) k.name start
+    (none_later es (shift_at e) k start (sym (hits k start e m h.0) ∙ at) l.0 (IsDistinct-head clashes (shift_at e) (shifts_in es) d) l.1))
     (removed_shifts es k start m h.1 (IsDistinct-tail clashes (shift_at e) (shifts_in es) d) l.1)
 
 removed_each : (P : Place × Hours → Type 0) (test : Place → Bool) (es : List (Place × Hours)) → AllByRecursion P es → AllByRecursion P (remove_entry test es)

@@ -1,5 +1,5 @@
 -- Shifts, and the table of them: a list in the order of their names, and of their starts under one name.
-use Rattle.std.specs.Prelude.{◌≡◌, ℕ, ℤ, pos, ◌+ℤ◌, ◌<ℤ◌, Bool, false, not, ◌&&◌, List, [], ◌∷◌, All, AllPairs, filter, int_lt, nat_eq, if◌then◌else◌}
+use Rattle.std.specs.Prelude.{◌≡◌, ℕ, ℤ, pos, ◌+ℤ◌, ◌<ℤ◌, Bool, false, not, ◌&&◌, List, [], ◌∷◌, Option, All, AllPairs, filter, find, int_lt, nat_eq, if◌then◌else◌}
 use Rattle.std.specs.declared.cmp.Ordering.{Ordering}
 use Rattle.std.specs.Ordering.{nat_cmp, int_cmp, int_eq, is_lt, ordering_then}
 use Rattle.std.specs.Cmp.Lexicographic.{pointwise, slice_cmp}
@@ -30,6 +30,14 @@ shift_cmp a b = ordering_then (slice_cmp nat_cmp a.name b.name) (int_cmp (span_o
 -- whether a shift has this name and starts at this moment
 abbrev pub stands_at : List ℕ → Interval → Shift → Bool
 stands_at name start s = same_name name s.name && int_eq (span_of start) (span_of s.start)
+
+-- whether a shift of the table is this one: the same name, start and length, as intervals are compared
+abbrev pub is_shift : Shift → Shift → Bool
+is_shift a b = stands_at a.name a.start b && int_eq (span_of a.length) (span_of b.length)
+
+-- the shift of this name that starts at this moment, if one does
+abbrev pub found : List Shift → List ℕ → Interval → Option Shift
+found t name start = find (stands_at name start) t
 
 -- the table with one more shift, at its place in the order
 abbrev pub booked : List Shift → Shift → List Shift

@@ -1,6 +1,7 @@
 //! A shift, and how intervals are compared.
 
 ghost use Rattle.std.specs.Prelude.{◌≡◌, pos, ◌+ℤ◌, ◌*ℤ◌};
+ghost use Rattle.std.specs.Ordering.{int_eq};
 ghost use Rattle.shift_table.specs.Spans.{span_of};
 
 use crate::name::ShiftName;
@@ -35,4 +36,11 @@ pub(crate) fn end_of(start: Interval, length: Interval) -> i128
     ensures { result ≡ span_of start +ℤ span_of length }
 {
     span_of(start) + span_of(length)
+}
+
+/// Whether two intervals are one length.
+pub(crate) fn is_same_span(first: Interval, second: Interval) -> bool
+    ensures { result ≡ int_eq (span_of first) (span_of second) }
+{
+    span_of(first) == span_of(second)
 }

@@ -5,13 +5,13 @@ ghost use Rattle.std.specs.List.{list_any};
 ghost use Rattle.std.specs.Result.{IsErrOf};
 ghost use Rattle.std.specs.List.Sorted.{IsStrictlySortedBy};
 ghost use Rattle.shift_table.specs.Spans.{span_of};
-ghost use Rattle.shift_table.specs.Shifts.{meets, clashes, stands_at, shift_cmp, booked, canceled, shifts_of, IsTimetable};
+ghost use Rattle.shift_table.specs.Shifts.{meets, clashes, is_shift, shift_cmp, found, booked, canceled, shifts_of, IsTimetable};
 ghost use Rattle.shift_table.specs.Kept.{shift_at};
 ghost use Rattle.shift_table.specs.declared.table.BookError.TheVariants as error;
 
 use crate::name::ShiftName;
 use crate::place::{Hours, Place, place_behind, place_of};
-use crate::shift::{Shift, end_of, span_of};
+use crate::shift::{Shift, end_of, is_same_span, span_of};
 use pg_interval::Interval;
 use std::alloc::{AllocError, AllocFailed, Global};
 use std::collections::BTreeMap;
@@ -57,7 +57,7 @@ impl<T: Drop> From<AllocFailed<T>> for BookError {
     }
 }
 
-/// No shift of this name starts at this moment.
+/// This shift isn't booked.
 #[derive(Clone, Copy, Debug, PartialEq, Eq)]
 pub struct UnknownShift;
 
@@ -114,18 +114,42 @@ impl ShiftTable {
         Ok(())
     }
 
-    /// Cancels the shift of a name that starts at a moment. Where there is none, nothing changes.
-    pub fn cancel(&mut self, name: ShiftName, start: Interval) -> Result<(), UnknownShift>
-        ensures known { is_ok result ≡ list_any (stands_at name start) self.old }
-        ensures canceled { self.new ≡ canceled self.old name start }
+    /// Cancels a shift, by two look-ups. Where it isn't booked, nothing changes.
+    pub fn cancel(&mut self, shift: Shift) -> Result<(), UnknownShift>
+        ensures known { is_ok result ≡ list_any (is_shift shift) self.old }
+        ensures canceled { OnOk result (self.new ≡ canceled self.old shift.name shift.start) }
         ensures err { OnErr result (self.new ≡ self.old) }
         ensures timetable { IsTimetable self.new }
     {
+        let Shift {
+            name,
+            start,
+            length,
+        } = shift;
         let place = place_of(name, start);
-        match self.hours.remove(&place) {
-            Some(_) => Ok(()),
-            None => Err(UnknownShift),
+        match self.hours.get(&place) {
+            Some(hours) if is_same_span(length, hours.length) => {
+                self.hours.remove(&place);
+                Ok(())
+            }
+            _ => Err(UnknownShift),
         }
+    }
+
+    /// The shift of a name that starts at a moment, as it was booked, if there is one; by one
+    /// look-up.
+    pub fn find(&self, name: ShiftName, start: Interval) -> Option<Shift>
+        ensures { result ≡ found self.now name start }
+    {
+        let place = place_of(name, start);
+        let hours = *self.hours.get(&place)?;
+        let Place { name, start: _ } = place;
+        let Hours { start, length } = hours;
+        Some(Shift {
+            name,
+            start,
+            length,
+        })
     }
 
     /// A copy of each shift, in their order.

@@ -41,16 +41,18 @@ fn a_month_is_thirty_days(rt: HostRuntime) -> Result<(), Fail> {
     let day = Interval::new(0, 1, 0);
     table.book(shift(rt.alloc(), "ann", Interval::new(1, 0, 0), day)?)?;
     let copy = table.clone()?;
-    let name = ShiftName::new(rt.alloc(), "ann")?;
-    assert_eq!(rt;
-        table.cancel(name.clone()?, Interval::new(0, 30, 0)),
-        Ok(())
-    );
-    assert_eq!(rt;
-        table.cancel(name, Interval::new(0, 30, 0)),
-        Err(UnknownShift)
-    );
+    let thirty = Interval::new(0, 30, 0);
+    let found = copy.find(ShiftName::new(rt.alloc(), "ann")?, thirty);
+    assert!(rt; matches!(&found, Some(booked) if booked.start.months == 1));
+    let longer = shift(rt.alloc(), "ann", thirty, Interval::new(0, 2, 0))?;
+    assert_eq!(rt; table.cancel(longer), Err(UnknownShift));
+    let same = shift(rt.alloc(), "ann", thirty, Interval::new(0, 0, 24 * HOUR))?;
+    assert_eq!(rt; table.cancel(same), Ok(()));
     assert_eq!(rt; table.is_empty(), true);
+    let found = table.find(ShiftName::new(rt.alloc(), "ann")?, thirty);
+    assert!(rt; found.is_none());
+    let again = shift(rt.alloc(), "ann", thirty, day)?;
+    assert_eq!(rt; table.cancel(again), Err(UnknownShift));
     assert_eq!(rt; copy.len(), 1);
     assert_eq!(rt; span_of(Interval::new(-1, 30, 5)), 5);
     assert_eq!(rt;

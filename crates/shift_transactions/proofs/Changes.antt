@@ -3,14 +3,15 @@ use Rattle.std.proofs.Common.{◌≡◌, ℕ, ℤ, ◌<ℤ◌, pos, Bool, true, 
 use Rattle.std.specs.List.{list_any}
 use Rattle.pg_interval.specs.declared.pg_interval.Interval.{Interval}
 use Rattle.shift_table.specs.Spans.{span_of}
-use Rattle.shift_table.specs.Shifts.{clashes, stands_at, booked, canceled, IsTimetable}
+use Rattle.shift_table.specs.Shifts.{clashes, is_shift, booked, canceled, IsTimetable}
 use Rattle.shift_table.specs.declared.shift.Shift.{Shift}
 use Rattle.shift_table.proofs.Timetables.{IsTimetable-booked, IsTimetable-canceled}
+use Rattle.shift_orders.specs.Orders.{and_then}
 use Rattle.shift_transactions.specs.declared.step.Step.{Step}
 use Rattle.shift_transactions.specs.declared.step.Step.TheVariants.{Book, Cancel}
 use Rattle.shift_transactions.specs.declared.outcome.Refusal.{Refusal}
 use Rattle.shift_transactions.specs.declared.outcome.Refusal.TheVariants.{NotPositive, Clash, UnknownShift}
-use Rattle.shift_transactions.specs.Steps.{tried, and_then, done_in_turn, ok_or_else, changed}
+use Rattle.shift_transactions.specs.Steps.{tried, done_in_turn, ok_or_else, changed}
 
 -- where there is a table, it is a timetable
 abbrev LeavesTimetable : Result (List Shift) Refusal → Type 0
@@ -34,7 +35,7 @@ cancels t name start true h = IsTimetable-canceled t name start h
 
 tries : (t : List Shift) (step : Step) → IsTimetable t → LeavesTimetable (tried t step)
 tries t (Book s) h = books t s (int_lt (pos 0) (span_of s.length)) (list_any (clashes s) t) h refl refl
-tries t (Cancel name start) h = cancels t name start (list_any (stands_at name start) t) h
+tries t (Cancel s) h = cancels t s.name s.start (list_any (is_shift s) t) h
 
 goes_on : (r : Result (List Shift) Refusal) (f : List Shift → Result (List Shift) Refusal) → LeavesTimetable r
     → ((t : List Shift) → IsTimetable t → LeavesTimetable (f t)) → LeavesTimetable (and_then r f)

@@ -1,13 +1,13 @@
 -- What orders do: on the table of all clients, or within a transaction.
 use Rattle.std.specs.Prelude.{Bool, true, false, List, [], ◌∷◌, ◌++◌, Option, Some, None, Result, Ok, Err}
-use Rattle.shift_table.specs.Shifts.{shifts_of}
+use Rattle.shift_table.specs.Shifts.{found, shifts_of}
 use Rattle.shift_table.specs.declared.shift.Shift.{Shift}
 use Rattle.shift_orders.specs.declared.order.ShiftOrder.{ShiftOrder}
 use Rattle.shift_orders.specs.declared.order.ShiftOrder.TheVariants as order
 use Rattle.shift_transactions.specs.declared.step.Step.{Step}
 use Rattle.shift_transactions.specs.declared.step.Step.TheVariants.{Book, Cancel}
 use Rattle.shift_transactions.specs.declared.outcome.Refusal.{Refusal}
-use Rattle.shift_transactions.specs.declared.outcome.Refusal.TheVariants.{Changed, Failed}
+use Rattle.shift_transactions.specs.declared.outcome.Refusal.TheVariants.{UnknownShift, Changed, Failed}
 use Rattle.shift_transactions.specs.declared.outcome.Outcome.{Outcome}
 use Rattle.shift_transactions.specs.declared.outcome.Outcome.TheVariants.{Began, Committed, RolledBack, Booked, Canceled, Shown, Refused}
 use Rattle.shift_transactions.specs.Steps.{tried, done_in_turn}
@@ -39,7 +39,7 @@ seen t (Some x) = x.table
 
 abbrev pub told_of : Step → Outcome
 told_of (Book s) = Booked
-told_of (Cancel name start) = Canceled
+told_of (Cancel s) = Canceled
 
 -- a step on its own changes the table of all clients
 abbrev pub stepped_alone : Step → Result (List Shift) Refusal → Done
@@ -55,6 +55,11 @@ abbrev pub stepped : List Shift → Option Open → Step → Done
 stepped t None step = stepped_alone step (tried t step)
 stepped t (Some x) step = stepped_within x step (tried x.table step)
 
+-- the shift that was found is canceled; where none was found, that is told
+abbrev pub canceling : List Shift → Option Open → Option Shift → Done
+canceling t transaction None = leaves transaction (Refused UnknownShift)
+canceling t transaction (Some s) = stepped t transaction (Cancel s)
+
 -- ---- transactions
 
 -- BEGIN within a transaction changes nothing
@@ -63,10 +68,11 @@ opened t None = record { table = t; steps = [] }
 opened t (Some x) = x
 
 -- The steps of a transaction change the table of all clients at once. Where others changed it so that one of them can't be done any more, nothing
--- is changed.
+-- is changed. A transaction without a step changes nothing.
 abbrev pub committed_by : List Step → Result (List Shift) Refusal → Done
-committed_by steps (Ok behind) = record { change = Some steps; transaction = None; outcome = Committed }
-committed_by steps (Err refusal) = leaves None (Refused Changed)
+committed_by [] r = leaves None Committed
+committed_by (step ∷ steps) (Ok behind) = record { change = Some (step ∷ steps); transaction = None; outcome = Committed }
+committed_by (step ∷ steps) (Err refusal) = leaves None (Refused Changed)
 
 abbrev pub committed : List Shift → Option Open → Done
 committed t None = leaves None Committed
@@ -76,7 +82,7 @@ committed t (Some x) = committed_by x.steps (done_in_turn t x.steps)
 
 abbrev pub done_on : List Shift → Option Open → ShiftOrder → Done
 done_on t transaction (order.Book s) = stepped t transaction (Book s)
-done_on t transaction (order.Cancel name start) = stepped t transaction (Cancel name start)
+done_on t transaction (order.Cancel name start) = canceling t transaction (found (seen t transaction) name start)
 done_on t transaction order.Shifts = leaves transaction (Shown (seen t transaction))
 done_on t transaction (order.ShiftsOf name) = leaves transaction (Shown (shifts_of (seen t transaction) name))
 done_on t transaction order.Begin = leaves (Some (opened t transaction)) Began

@@ -1,16 +1,17 @@
 //! What orders do.
 
 ghost use Rattle.std.specs.Prelude.{◌≡◌, None, IsTrue, IsOk, IfOk, OnOk, OnErr};
-ghost use Rattle.shift_table.specs.Shifts.{shifts_of};
+ghost use Rattle.shift_table.specs.Shifts.{found, shifts_of};
 ghost use Rattle.shift_orders.specs.declared.order.ShiftOrder.TheVariants as ask;
 ghost use Rattle.shift_transactions.specs.Steps.{tried};
-ghost use Rattle.shift_transactions.specs.Doing.{seen, stepped, stepped_alone, opened, committed, done, done_after_error};
+ghost use Rattle.shift_transactions.specs.Doing.{seen, stepped, stepped_alone, canceling, opened, committed, done, done_after_error};
 ghost use Rattle.shift_transactions.specs.Trying.{changed_by};
 ghost use Rattle.shift_transactions.specs.declared.outcome.Outcome.TheVariants as outcome;
 
 use crate::outcome::{Outcome, Refusal};
 use crate::step::{Step, Steps, told_of, try_step};
 use crate::transaction::Transaction;
+use pg_interval::Interval;
 use pg_messages::PgList;
 use shift_orders::ShiftOrder;
 use shift_table::{ShiftName, ShiftTable};
@@ -41,12 +42,7 @@ pub fn do_order(
     }
     match order {
         ShiftOrder::Book(shift) => do_step(alloc, table, transaction, Step::Book(shift)),
-        ShiftOrder::Cancel(name, start) => do_step(
-            alloc,
-            table,
-            transaction,
-            Step::Cancel(name, start),
-        ),
+        ShiftOrder::Cancel(name, start) => cancel(alloc, table, transaction, name, start),
         ShiftOrder::Shifts => Ok((None, show(alloc, seen(table, transaction))?)),
         ShiftOrder::ShiftsOf(name) => Ok((None, show_of(alloc, seen(table, transaction), name)?)),
         ShiftOrder::Begin => {
@@ -99,6 +95,28 @@ fn show_of(alloc: Global, table: &ShiftTable, name: ShiftName) -> Result<Outcome
     Ok(Outcome::Shown(PgList::from_vec(table.shifts_of(alloc, name)?)))
 }
 
+/// Cancels the shift of a name that starts at a moment, if the client sees one. After an error all is as
+/// it was.
+fn cancel(
+    alloc: Global,
+    table: &mut ShiftTable,
+    transaction: &mut Option<Transaction>,
+    name: ShiftName,
+    start: Interval,
+) -> Result<(Option<Steps>, Outcome), AllocError>
+    ensures done { IfOk result (λ r.
+        record { change = r.0; transaction = transaction.new; outcome = r.1 }
+        ≡ canceling table.old transaction.old (found (seen table.old transaction.old) name start)) }
+    ensures changed { IfOk result (λ r. table.new ≡ changed_by table.old r.0) }
+    ensures table { OnErr result (table.new ≡ table.old) }
+    ensures transaction { OnErr result (transaction.new ≡ transaction.old) }
+{
+    match seen(table, transaction).find(name, start) {
+        Some(shift) => do_step(alloc, table, transaction, Step::Cancel(shift)),
+        None => Ok((None, Outcome::Refused(Refusal::UnknownShift))),
+    }
+}
+
 /// Does a step, on its own or within the transaction that is open. After an error all is as it was.
 fn do_step(
     alloc: Global,
@@ -132,7 +150,7 @@ fn do_alone(
     ensures err { OnErr result (table.new ≡ table.old) }
 {
     let told = told_of(&step);
-    let change = Steps::of_one(alloc, step.clone()?)?;
+    let change = Steps::of_one(alloc, step.clone()?);
     match try_step(table, step)? {
         None => Ok((Some(change), told)),
         Some(refusal) => Ok((None, Outcome::Refused(refusal))),
@@ -170,6 +188,10 @@ fn commit(
     let Some(current) = transaction else {
         return Ok((None, Outcome::Committed));
     };
+    if current.is_empty() {
+        *transaction = None;
+        return Ok((None, Outcome::Committed));
+    }
     let is_made = current.make_on(table)?;
     let steps = transaction.take().map(|ended| ended.into_steps());
     if is_made {

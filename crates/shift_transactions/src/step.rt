@@ -1,15 +1,15 @@
 //! Steps, which change a table of shifts.
 
-ghost use Rattle.std.specs.Prelude.{◌≡◌, ◌∷◌, ◌++◌, [], IfOk, OnOk, OnErr};
-ghost use Rattle.shift_transactions.specs.Steps.{tried};
+ghost use Rattle.std.specs.Prelude.{◌≡◌, ◌∷◌, ◌++◌, ◌==◌, [], IfOk, OnOk, OnErr, length};
+ghost use Rattle.std.specs.Result.{result_ok};
+ghost use Rattle.shift_transactions.specs.Steps.{tried, done_in_turn};
 ghost use Rattle.shift_transactions.specs.Trying.{after};
 ghost use Rattle.shift_transactions.specs.Doing.{told_of};
 ghost use Rattle.shift_transactions.specs.declared.step.Step.{Step};
 ghost use Rattle.std.specs.Prelude.{List};
 
 use crate::outcome::{Outcome, Refusal};
-use pg_interval::Interval;
-use shift_table::{BookError, Shift, ShiftName, ShiftTable, UnknownShift};
+use shift_table::{BookError, Shift, ShiftTable, UnknownShift};
 use std::alloc::{AllocError, Global};
 use std::marker::Model;
 
@@ -18,8 +18,8 @@ use std::marker::Model;
 pub enum Step {
     /// A shift is booked.
     Book(Shift),
-    /// The shift of this name that starts at this moment is canceled.
-    Cancel(ShiftName, Interval),
+    /// This shift is canceled.
+    Cancel(Shift),
 }
 
 impl Clone for Step {
@@ -27,48 +27,67 @@ impl Clone for Step {
 
     fn clone(&self) -> Result<Step, AllocError> {
         match self {
-            Step::Book(shift) => Ok(Step::Book(Shift {
-                name: shift.name.clone()?,
-                start: shift.start,
-                length: shift.length,
-            })),
-            Step::Cancel(name, start) => Ok(Step::Cancel(name.clone()?, *start)),
+            Step::Book(shift) => Ok(Step::Book(copy_of(shift)?)),
+            Step::Cancel(shift) => Ok(Step::Cancel(copy_of(shift)?)),
         }
     }
 }
 
-/// Steps, in their order.
+/// A copy of a shift.
+fn copy_of(shift: &Shift) -> Result<Shift, AllocError>
+    ensures { IfOk result (λ copy. copy ≡ shift.now) }
+{
+    Ok(Shift {
+        name: shift.name.clone()?,
+        start: shift.start,
+        length: shift.length,
+    })
+}
+
+/// Steps, in their order. One alone takes no memory.
 #[derive(Debug, Drop)]
 pub struct Steps {
-    steps: Vec<Step>,
+    first: Option<Step>,
+    others: Vec<Step>,
 }
 
 impl Model for Steps {
-    ghost use Rattle.std.specs.Prelude.{List};
+    ghost use Rattle.std.specs.Prelude.{◌≡◌, ◌++◌, [], List, None, option_to_list};
     ghost use Rattle.shift_transactions.specs.declared.step.Step.{Step};
 
     ghost Value = { List Step };
 
-    ghost view = { λ s. s.steps.items };
+    ghost view = { λ s. option_to_list s.first ++ s.others.items };
+
+    ghost invariant = { λ s. s.first ≡ None → s.others.items ≡ [] };
 }
 
 impl Steps {
-    /// No step, which takes no memory.
+    /// No step.
     pub fn new(alloc: Global) -> Steps
         ensures { result ≡ [] }
     {
         Steps {
-            steps: Vec::new(alloc),
+            first: None,
+            others: Vec::new(alloc),
         }
     }
 
     /// One step alone.
-    pub fn of_one(alloc: Global, step: Step) -> Result<Steps, AllocError>
-        ensures { IfOk result (λ steps. steps ≡ step ∷ []) }
+    pub fn of_one(alloc: Global, step: Step) -> Steps
+        ensures { result ≡ step ∷ [] }
     {
-        let mut steps = Steps::new(alloc);
-        steps.push(step)?;
-        Ok(steps)
+        Steps {
+            first: Some(step),
+            others: Vec::new(alloc),
+        }
+    }
+
+    /// Whether there is none.
+    pub fn is_empty(&self) -> bool
+        ensures { result ≡ (length self.now == 0) }
+    {
+        self.first.is_none()
     }
 
     /// Puts a step behind the others. After an error they are as they were.
@@ -76,7 +95,11 @@ impl Steps {
         ensures ok { OnOk result (self.new ≡ self.old ++ step ∷ []) }
         ensures err { OnErr result (self.new ≡ self.old) }
     {
-        self.steps.push(step)?;
+        if self.first.is_none() {
+            self.first = Some(step);
+        } else {
+            self.others.push(step)?;
+        }
         Ok(())
     }
 
@@ -85,15 +108,37 @@ impl Steps {
         ensures { (steps : List Step) (step : Step) → self.old ≡ steps ++ step ∷ []
             → self.new ≡ steps }
     {
-        let _ = self.steps.pop();
+        if self.others.pop().is_none() {
+            self.first = None;
+        }
     }
 
-    /// The steps.
-    pub fn as_slice(&self) -> &[Step]
-        ensures { result.now ≡ self.now }
+    /// The table behind the steps, one after the other; or None, where one of them can't be done.
+    pub(crate) fn do_on(&self, table: ShiftTable) -> Result<Option<ShiftTable>, AllocError>
+        ensures { IfOk result (λ behind. behind ≡ result_ok (done_in_turn table self.now)) }
     {
-        self.steps.as_slice()
+        let mut behind = table;
+        let Some(first) = &self.first else {
+            return Ok(Some(behind));
+        };
+        match try_step(&mut behind, first.clone()?)? {
+            Some(_) => Ok(None),
+            None => do_in_turn(behind, self.others.as_slice()),
+        }
     }
+}
+
+/// The table behind steps, one after the other; or None, where one of them can't be done.
+fn do_in_turn(table: ShiftTable, steps: &[Step]) -> Result<Option<ShiftTable>, AllocError>
+    ensures { IfOk result (λ behind. behind ≡ result_ok (done_in_turn table steps.now)) }
+{
+    let mut behind = table;
+    for step in steps {
+        if try_step(&mut behind, step.clone()?)?.is_some() {
+            return Ok(None);
+        }
+    }
+    Ok(Some(behind))
 }
 
 /// What a client is told of a step that is done.
@@ -102,7 +147,7 @@ pub(crate) fn told_of(step: &Step) -> Outcome
 {
     match step {
         Step::Book(_) => Outcome::Booked,
-        Step::Cancel(_, _) => Outcome::Canceled,
+        Step::Cancel(_) => Outcome::Canceled,
     }
 }
 
@@ -120,7 +165,7 @@ pub(crate) fn try_step(table: &mut ShiftTable, step: Step) -> Result<Option<Refu
             Err(BookError::Clash) => Ok(Some(Refusal::Clash)),
             Err(BookError::NoMemory) => Err(AllocError),
         },
-        Step::Cancel(name, start) => match table.cancel(name, start) {
+        Step::Cancel(shift) => match table.cancel(shift) {
             Ok(()) => Ok(None),
             Err(UnknownShift) => Ok(Some(Refusal::UnknownShift)),
         },

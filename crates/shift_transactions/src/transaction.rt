@@ -1,7 +1,6 @@
 //! An open transaction.
 
-ghost use Rattle.std.specs.Prelude.{◌≡◌, Some, None, IfOk, OnOk, OnErr, is_ok};
-ghost use Rattle.std.specs.Result.{result_ok};
+ghost use Rattle.std.specs.Prelude.{◌≡◌, ◌==◌, Some, None, IfOk, OnOk, OnErr, is_ok, length};
 ghost use Rattle.shift_transactions.specs.Steps.{tried, done_in_turn, changed};
 ghost use Rattle.shift_transactions.specs.Doing.{leaves, opened, stepped_within};
 
@@ -44,6 +43,13 @@ impl Transaction {
         &self.table
     }
 
+    /// Whether it has no step.
+    pub(crate) fn is_empty(&self) -> bool
+        ensures { result ≡ (length self.now.steps == 0) }
+    {
+        self.steps.is_empty()
+    }
+
     /// Does a step within it, if it can be done. The only error is running out of memory, and then it
     /// is as it was.
     pub(crate) fn step(&mut self, step: Step) -> Result<Outcome, AllocError>
@@ -66,21 +72,6 @@ impl Transaction {
         }
     }
 
-    /// The table of all clients behind its steps, which are done on a copy; or None, where one of them
-    /// can't be done.
-    pub(crate) fn behind(&self, table: &ShiftTable) -> Result<Option<ShiftTable>, AllocError>
-        ensures { IfOk result (λ behind. behind
-            ≡ result_ok (done_in_turn table.now self.now.steps)) }
-    {
-        let mut copy = table.clone()?;
-        for step in self.steps.as_slice() {
-            if try_step(&mut copy, step.clone()?)?.is_some() {
-                return Ok(None);
-            }
-        }
-        Ok(Some(copy))
-    }
-
     /// Makes its changes on the table of all clients, and tells whether they could be made. Where they
     /// can't be, and after an error, the table is as it was.
     pub(crate) fn make_on(&self, table: &mut ShiftTable) -> Result<bool, AllocError>
@@ -89,10 +80,7 @@ impl Transaction {
         ensures table { OnOk result (table.new ≡ changed table.old self.now.steps) }
         ensures err { OnErr result (table.new ≡ table.old) }
     {
-        if self.steps.as_slice().is_empty() {
-            return Ok(true);
-        }
-        match self.behind(table)? {
+        match self.steps.do_on(table.clone()?)? {
             Some(behind) => {
                 *table = behind;
                 Ok(true)
