@@ -309,7 +309,7 @@ def names_of(crate):
     """What a head may name: the crate's items, clauses, meanings and definitions."""
     definitions = specs_of(crate.name)
     names = set(crate.own) | crate.names | {key[2] for key in definitions}
-    names |= {field for one in definitions.values() for field in re.findall(r"(?m)^  pub (\w+) :", one.body)}
+    names |= {field for one in definitions.values() for field in re.findall(r"(?m)^ {2,4}pub (\w+) :", one.body)}
     for file in crate.files.values():
         for item in file.items:
             names |= {item.name, base(item.trait), base(item.target)}

@@ -4,6 +4,8 @@
 #[cfg(test)]
 mod clients;
 #[cfg(test)]
+mod left_tests;
+#[cfg(test)]
 mod refusing;
 #[cfg(test)]
 mod stage;

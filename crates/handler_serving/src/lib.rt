@@ -2,6 +2,7 @@
 //! a port of this machine or to a Unix socket, each on a thread of its own.
 #![tactic(auto)]
 
+mod listening;
 mod one_client;
 mod orders;
 mod program;
@@ -11,5 +12,5 @@ mod telling;
 pub use client_listening::{AdmittedClient, ClientSpawner, ClientThreads};
 pub use one_client::{serve_client, serve_one};
 pub use orders::{Order, order_of};
-pub use program::{run_program, run_service};
+pub use program::{run_program, run_service, run_threads};
 pub use server::{HandlerJob, HandlerServer};

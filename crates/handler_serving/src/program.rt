@@ -2,12 +2,15 @@
 
 ghost use Rattle.std.specs.Prelude.{◌≡◌};
 
+use crate::listening::listen_over;
 use crate::one_client::{OverHandlers, OverService, ServesOne};
 use crate::orders::{Order, order_of};
 use crate::telling::{
     tell_help, tell_listened, tell_served, tell_usage, tell_version, tell_written,
 };
-use client_listening::{ClientThreads, ListenError, TURNS, listen_at};
+use client_listening::{
+    ClientThreads, ListenError, ServiceThreads, SharedService, TURNS, listen_at,
+};
 use client_services::Service;
 use pg_messages::{PgList, PgStr};
 use pg_serve::{ReaderSource, WriterSink};
@@ -21,6 +24,7 @@ use std::net::{Net, TcpListener, TcpStream};
 use std::process::ExitCode;
 use std::random::RandomSource;
 use std::sync::{Arc, Wait};
+use std::thread::Threads;
 use std::time::Clock;
 use std::{env, io};
 
@@ -77,6 +81,47 @@ pub fn run_service<
     requires started { T.started threads ≡ 0 }
 {
     run_words(rt, name, OverService { service }, threads, writer)
+}
+
+/// The same as [`run_service`], where this function starts the threads itself. A program whose `main`
+/// can't name the service uses it, as one over a world that clients share.
+pub fn run_threads<
+    R: Threads
+        + Wait
+        + Net<Stream = TcpStream, Listener = TcpListener>
+        + Files
+        + Clock
+        + RandomSource
+        + Env
+        + AllocGlobal
+        + Input
+        + Print
+        + Eprint
+        + Copy
+        + Send
+        + Drop
+        + 'static,
+    V: SharedService + Send + 'static,
+    W: Write + Drop,
+>(rt: R, name: &str, service: V, writer: W) -> io::Result<ExitCode> {
+    let (Ok(words), Ok(server)) = (read_words(&rt), ServiceThreads::new(rt.alloc(), service)) else {
+        return Ok(tell_listened(&rt, &Err(ListenError::NoMemory)));
+    };
+    Ok(match order_of(words.as_slice()) {
+        None => tell_usage(&rt, name),
+        Some(Order::Help) => tell_written(&rt, tell_help(&rt, name)),
+        Some(Order::Version) => tell_written(&rt, tell_version(&rt, name)),
+        Some(Order::Serve(pid, key)) => {
+            let one = OverService {
+                service: server.service,
+            };
+            serve_standard(&rt, one, pid, &key, writer)
+        }
+        Some(Order::Listen(place, count)) => {
+            let answer = listen_over(rt, place, count, &server);
+            tell_listened(&rt, &answer)
+        }
+    })
 }
 
 /// Does what the words of the command line order.

@@ -177,9 +177,13 @@ fn take_in<
     start(spawner, maker.make(manager, handle, source, sink))
 }
 
-/// Registers a connection under this pid, and gives what its job shares with the server, and the
-/// registration.
-fn admit<R: Wait, S: Source, K: Sink, J: Job, M: JobMaker<S, K, J>, G: KeySource>(
+/// Registers a connection under this pid and the next key, and gives what its job shares with the
+/// server, and the registration. [`listen_with`] does so for each connection, before the maker makes
+/// its job of them. A loop that starts its jobs in another way than by a spawner does the same.
+///
+/// PidTaken comes where the pid has a live registration, NoMemory where memory ran out or there was
+/// no key. Nothing is registered then.
+pub fn admit<R: Wait, S: Source, K: Sink, J: Job, M: JobMaker<S, K, J>, G: KeySource>(
     rt: &R,
     keys: &mut G,
     manager: &Arc<ConnectionManager>,

@@ -9,7 +9,7 @@ mod registered;
 mod service_job;
 mod spawner;
 
-pub use accept_loop::{JobMaker, ListenError, listen_with};
+pub use accept_loop::{JobMaker, ListenError, admit, listen_with};
 pub use admitted::{AdmittedClient, AdmittedClients};
 pub use client_services::{HandlerService, Service};
 pub use job_threads::{Ended, JobThreads, ThreadJob, Tries};

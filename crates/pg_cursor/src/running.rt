@@ -52,7 +52,8 @@ pub fn run_cursors<F: Source, S: Source, K: Sink, E: Sink>(
         out.new)
         × IsReported (status_of outcome) (line_of outcome) result (E.written err.old)
         (E.written err.new)
-        (E.faults err.old) (E.faults err.new) }
+        (E.faults err.old) (E.faults err.new)
+        (E.refused err.old) (E.refused err.new) }
 
     // With enough turns, a file that isn't refused, and no fault, the conversation comes to its end.
     ensures complete { IsRunComplete (command_of words.now) result

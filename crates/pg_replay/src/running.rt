@@ -69,7 +69,8 @@ pub fn run_replay<F: Source, S: Source, K: Sink, E: Sink>(
         out.new)
         × IsReported (status_of outcome) (line_of outcome) result (E.written err.old)
         (E.written err.new)
-        (E.faults err.old) (E.faults err.new) }
+        (E.faults err.old) (E.faults err.new)
+        (E.refused err.old) (E.refused err.new) }
     ensures never_falls { CountsNeverFall
         (F.faults file.old ∷ S.faults client.old ∷ K.faults out.old ∷ E.faults err.old ∷ [])
         (F.faults file.new ∷ S.faults client.new ∷ K.faults out.new ∷ E.faults err.new ∷ []) }

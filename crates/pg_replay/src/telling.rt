@@ -16,7 +16,8 @@ const USAGE: &str = "usage: pg_replay record FILE PID KEY, verify FILE\n";
 /// memory for the line or in the sink.
 pub(crate) fn tell<E: Sink>(alloc: Global, outcome: &Outcome, err: &mut E) -> u8
     ensures reported { IsReported (status_of outcome.now) (line_of outcome.now) result
-        (E.written err.old) (E.written err.new) (E.faults err.old) (E.faults err.new) }
+        (E.written err.old) (E.written err.new) (E.faults err.old) (E.faults err.new)
+        (E.refused err.old) (E.refused err.new) }
     ensures never_falls { E.faults err.old ≤ E.faults err.new }
 {
     match outcome {

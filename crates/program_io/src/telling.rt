@@ -17,10 +17,10 @@ use std::env::Env;
 /// it is 7, and the line is `out of memory`. A line that can't be written changes no status, but
 /// where `err` finds no memory it is 7.
 pub fn tell<K: Sink, E: Sink>(text: &str, out: &mut K, err: &mut E) -> u8
-    ensures told { IsTold text.now result (written_to K.written K.faults out.old)
-        (written_to K.written K.faults out.new)
-        (written_to E.written E.faults err.old)
-        (written_to E.written E.faults err.new) }
+    ensures told { IsTold text.now result (written_to K.written K.faults K.refused out.old)
+        (written_to K.written K.faults K.refused out.new)
+        (written_to E.written E.faults E.refused err.old)
+        (written_to E.written E.faults E.refused err.new) }
     ensures never_falls { CountsNeverFall (K.faults out.old ∷ E.faults err.old ∷ [])
         (K.faults out.new ∷ E.faults err.new ∷ []) }
 {
@@ -32,8 +32,8 @@ pub fn tell<K: Sink, E: Sink>(text: &str, out: &mut K, err: &mut E) -> u8
 
 /// Writes the line `out of memory` to `err`, and answers the exit status of that end, 7.
 pub fn out_of_memory<E: Sink>(err: &mut E) -> u8
-    ensures ended { EndsBy NoMemory result (written_to E.written E.faults err.old)
-        (written_to E.written E.faults err.new) }
+    ensures ended { EndsBy NoMemory result (written_to E.written E.faults E.refused err.old)
+        (written_to E.written E.faults E.refused err.new) }
     ensures never_falls { CountsNeverFall (E.faults err.old ∷ []) (E.faults err.new ∷ []) }
 {
     report_conversation(Err(ServeError::NoMemory), err)
@@ -53,10 +53,10 @@ pub fn words_to_obey<R: Env + AllocGlobal, K: Sink, E: Sink>(
     ensures obeyed { IfOk result (λ words. told_text words help.now version.now ≡ None) }
     ensures silent { OnOk result ((out.new ≡ out.old) × (err.new ≡ err.old)) }
     ensures ended { IfErr result (λ status. HasToldOfItself help.now version.now status
-        (written_to K.written K.faults out.old)
-        (written_to K.written K.faults out.new)
-        (written_to E.written E.faults err.old)
-        (written_to E.written E.faults err.new)) }
+        (written_to K.written K.faults K.refused out.old)
+        (written_to K.written K.faults K.refused out.new)
+        (written_to E.written E.faults E.refused err.old)
+        (written_to E.written E.faults E.refused err.new)) }
     ensures never_falls { CountsNeverFall (K.faults out.old ∷ E.faults err.old ∷ [])
         (K.faults out.new ∷ E.faults err.new ∷ []) }
 {

@@ -24,7 +24,7 @@ line_of_listening (Err NoMemory) = line (codes "out of memory")
 
 -- A relation file gave no relations, for a cause that it had, and that was told by its line and its status.
 pub record IsFileRefused (status : ℕ) (left new_left : Option (List ℕ)) (file_faults new_file_faults : ℕ)
-    (old new : Option (List ℕ)) (faults new_faults : ℕ) : Type 0 where
+    (old new : Option (List ℕ)) (faults new_faults refused new_refused : ℕ) : Type 0 where
   pub error : FileError
   pub cause : IsFileCause error left new_left file_faults new_file_faults
-  pub reported : IsReported (status_of_file error) (line_of_file error) status old new faults new_faults
+  pub reported : IsReported (status_of_file error) (line_of_file error) status old new faults new_faults refused new_refused

@@ -15,7 +15,8 @@ use status_lines::{OUT_OF_MEMORY, write_line};
 /// also in the sink.
 pub fn report_listened<E: Sink>(answer: Result<u64, ListenError>, err: &mut E) -> u8
     ensures reported { IsReported (status_of_listening answer) (line_of_listening answer) result
-        (E.written err.old) (E.written err.new) (E.faults err.old) (E.faults err.new) }
+        (E.written err.old) (E.written err.new) (E.faults err.old) (E.faults err.new)
+        (E.refused err.old) (E.refused err.new) }
     ensures never_falls { CountsNeverFall (E.faults err.old ∷ []) (E.faults err.new ∷ []) }
 {
     match answer {

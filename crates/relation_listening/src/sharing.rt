@@ -26,7 +26,8 @@ pub fn shared_relations<F: Source, E: Sink>(
     ensures silent { OnOk result (err.new ≡ err.old) }
     ensures refused { IfErr result (λ status. IsFileRefused status
         (F.left file.old) (F.left file.new) (F.faults file.old) (F.faults file.new)
-        (E.written err.old) (E.written err.new) (E.faults err.old) (E.faults err.new)) }
+        (E.written err.old) (E.written err.new) (E.faults err.old) (E.faults err.new)
+        (E.refused err.old) (E.refused err.new)) }
     ensures never_falls { CountsNeverFall (F.faults file.old ∷ E.faults err.old ∷ [])
         (F.faults file.new ∷ E.faults err.new ∷ []) }
 {

@@ -49,11 +49,11 @@ is_newcomer h issuer pid key seen a b c d e =
 -- ---- what a status tells
 
 -- the status is the outcome's, or that of no memory
-pub reported_status : (status ended faults new_faults : ℕ) (text : List ℕ) (old new : Option (List ℕ))
-    → IsReported status text ended old new faults new_faults → (ended ≡ status) ⊎ (ended ≡ 7)
-reported_status status ended faults new_faults text old new (inl (inl r)) = inl r.0
-reported_status status ended faults new_faults text old new (inl (inr r)) = inl r.0
-reported_status status ended faults new_faults text old new (inr r) = inr r.0
+pub reported_status : (status ended faults new_faults refused new_refused : ℕ) (text : List ℕ) (old new : Option (List ℕ))
+    → IsReported status text ended old new faults new_faults refused new_refused → (ended ≡ status) ⊎ (ended ≡ 7)
+reported_status status ended faults new_faults refused new_refused text old new (inl (inl r)) = inl r.0
+reported_status status ended faults new_faults refused new_refused text old new (inl (inr r)) = inl r.0
+reported_status status ended faults new_faults refused new_refused text old new (inr r) = inr r.0
 
 if_some : {A : Type 0} (o : Option A) (P : A → Type 0) → ((a : A) → o ≡ Some a → P a) → IfSome o P
 if_some None P f = tt

@@ -8,6 +8,7 @@ mod demo;
 mod many_clients_program;
 mod one_client_program;
 mod outcome;
+mod places;
 mod registered_client;
 mod report;
 mod spawner;
@@ -18,6 +19,7 @@ pub use job_threads::Tries;
 pub use many_clients::ListenError;
 pub use many_clients_program::run_listen;
 pub use one_client_program::run;
+pub use places::{serve_place, serve_standard};
 pub use registered_client::serve_relations;
 pub use relation_files::{FileError, LineReason, read_relations};
 pub use relation_serving::{

@@ -72,7 +72,8 @@ pub fn run_listen<
         (taking_of A.accepted A.faults P.started P.faults acceptor.new spawner.new) door.new.seen)
         × IsReported (status_of outcome) (line_of outcome) result (E.written err.old)
         (E.written err.new)
-        (E.faults err.old) (E.faults err.new) }
+        (E.faults err.old) (E.faults err.new)
+        (E.refused err.old) (E.refused err.new) }
 
     // Each connection became the job of its own pid, in order, over the relations of the file.
     ensures jobs { ServesFile (F.left file.old) (F.left file.new) 1000000000 (arc_value manager)

@@ -62,7 +62,8 @@ pub fn run<R: Wait, F: Source, S: Source, K: Sink, E: Sink>(
         client.new out.new door.new.seen)
         × IsReported (status_of outcome) (line_of outcome) result.0 (E.written err.old)
         (E.written err.new)
-        (E.faults err.old) (E.faults err.new) }
+        (E.faults err.old) (E.faults err.new)
+        (E.refused err.old) (E.refused err.new) }
     ensures complete { IsRunComplete (command_of words.now) result.0
         (surroundings_of F.left F.faults S.left S.reads S.faults K.written K.faults file.old
         client.old out.old door.old.seen)

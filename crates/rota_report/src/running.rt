@@ -50,7 +50,8 @@ pub fn run_rota<F: Source, K: Sink, E: Sink>(
         (surroundings F.left F.faults K.written K.faults file.old out.old)
         (surroundings F.left F.faults K.written K.faults file.new out.new)
         × IsReported (status_of answer) (line_of answer) result
-        (E.written err.old) (E.written err.new) (E.faults err.old) (E.faults err.new) }
+        (E.written err.old) (E.written err.new) (E.faults err.old) (E.faults err.new)
+        (E.refused err.old) (E.refused err.new) }
     ensures never_falls { CountsNeverFall
         (F.faults file.old ∷ K.faults out.old ∷ E.faults err.old ∷ [])
         (F.faults file.new ∷ K.faults out.new ∷ E.faults err.new ∷ []) }

@@ -16,7 +16,8 @@ const USAGE: &str =
 /// is no memory for the line or in the sink.
 pub(crate) fn tell<E: Sink>(alloc: Global, answer: &Result<(), Failure>, err: &mut E) -> u8
     ensures { Reports (status_of answer.now) (line_of answer.now) result
-        (E.written err.old) (E.written err.new) (E.faults err.old) (E.faults err.new) }
+        (E.written err.old) (E.written err.new) (E.faults err.old) (E.faults err.new)
+        (E.refused err.old) (E.refused err.new) }
 {
     match answer {
         Ok(()) => 0,

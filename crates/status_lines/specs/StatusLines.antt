@@ -1,10 +1,10 @@
 -- How programs report an outcome: by a status, and by a line on their error output where there is one.
-use Rattle.std.specs.Prelude.{ℕ, List, [], ◌++◌, ◌∷◌, ◌≡◌, ◌≢◌, ◌≤◌, ◌⊎◌, Option, Result, Ok, Err, codes, decimal}
+use Rattle.std.specs.Prelude.{ℕ, List, [], ◌++◌, ◌∷◌, ◌≡◌, ◌≢◌, ◌≤◌, ◌+◌, ◌⊎◌, Option, Result, Ok, Err, codes, decimal, min}
 use Rattle.pg_client.specs.declared.ends.EndKind.{EndKind}
 use Rattle.pg_client.specs.declared.ends.EndKind.TheVariants.{Terminate, InputEnd, BadFrame, Fatal, CancelServed}
 use Rattle.conversation_runs.specs.declared.ends.ServeError.{ServeError}
 use Rattle.conversation_runs.specs.declared.ends.ServeError.TheVariants.{ReadFault, WriteFault, TurnLimit, NoMemory}
-use Rattle.conversation_runs.specs.Streams.{GrowsBy, GrowsByFront, HasRisen}
+use Rattle.conversation_runs.specs.Streams.{GrowsBy, GrowsByFront, HasRisen, greatest_count}
 use Rattle.relation_files.specs.declared.errors.FileError.{FileError}
 use Rattle.relation_files.specs.declared.errors.FileError.TheVariants as file
 use Rattle.relation_files.specs.declared.errors.LineReason.{LineReason}
@@ -67,14 +67,26 @@ line_of_file file.TooLong = line (codes "file too long")
 line_of_file file.FileFault = line (codes "file fault")
 line_of_file file.NoMemory = line (codes "out of memory")
 
+-- It takes memory to put a line together: that of a bad line alone, since it tells a number.
+abbrev pub IsMade : List ℕ → Type 0
+IsMade text = (number : ℕ) × (reason : LineReason) × (text ≡ bad_line number reason)
+
+-- No memory was found for a line: the output refused a send of it, for which one more is counted; or the line is one that takes memory, and
+-- nothing was written.
+abbrev pub WantsMemory : List ℕ → Option (List ℕ) → Option (List ℕ) → ℕ → ℕ → Type 0
+WantsMemory text old new refused new_refused =
+    (new_refused ≡ min (refused + 1) greatest_count) ⊎ (IsMade text × (new ≡ old) × (new_refused ≡ refused))
+
 -- What came of writing a line of an error. With this status, all of it was written, or a front of it where the count of faults has risen.
--- With status 7, where there is a line, a front of it was written, no memory was found, and no fault was counted.
-abbrev pub IsReported : ℕ → List ℕ → ℕ → Option (List ℕ) → Option (List ℕ) → ℕ → ℕ → Type 0
-IsReported status text ended old new faults new_faults =
+-- With status 7, where there is a line, a front of it was written, no fault was counted, and no memory was found, as above.
+abbrev pub IsReported : ℕ → List ℕ → ℕ → Option (List ℕ) → Option (List ℕ) → ℕ → ℕ → ℕ → ℕ → Type 0
+IsReported status text ended old new faults new_faults refused new_refused =
     (((ended ≡ status) × GrowsBy old new text) ⊎ ((ended ≡ status) × GrowsByFront old new text × HasRisen faults new_faults))
-    ⊎ ((ended ≡ 7) × (text ≢ []) × GrowsByFront old new text × (new_faults ≡ faults))
+    ⊎ ((ended ≡ 7) × (text ≢ []) × GrowsByFront old new text × (new_faults ≡ faults)
+    × WantsMemory text old new refused new_refused)
 
 -- A line of an error was written, and this status answered, as above. The count of faults doesn't fall.
-pub record Reports (status : ℕ) (text : List ℕ) (ended : ℕ) (old new : Option (List ℕ)) (faults new_faults : ℕ) : Type 0 where
-  pub reported : IsReported status text ended old new faults new_faults
-  pub never_falls : faults ≤ new_faults
+pub record Reports (status : ℕ) (text : List ℕ) (ended : ℕ) (old new : Option (List ℕ)) (faults new_faults refused new_refused : ℕ) : Type 0
+  where
+    pub reported : IsReported status text ended old new faults new_faults refused new_refused
+    pub never_falls : faults ≤ new_faults

@@ -17,7 +17,8 @@ pub const OUT_OF_MEMORY: u8 = 7;
 /// line or in the sink.
 pub fn report_file<E: Sink>(alloc: Global, error: &FileError, err: &mut E) -> u8
     ensures { Reports (status_of_file error.now) (line_of_file error.now) result
-        (E.written err.old) (E.written err.new) (E.faults err.old) (E.faults err.new) }
+        (E.written err.old) (E.written err.new) (E.faults err.old) (E.faults err.new)
+        (E.refused err.old) (E.refused err.new) }
 {
     match error {
         FileError::BadLine(number, reason) => match bad_line(alloc, *number, reason) {
@@ -58,7 +59,8 @@ fn reason_text(reason: &LineReason) -> &'static str
 /// or the turns were spent, 7 where memory ran out, also in the sink.
 pub fn report_conversation<E: Sink>(answer: Result<EndKind, ServeError>, err: &mut E) -> u8
     ensures { Reports (status_of_conversation answer) (line_of_conversation answer) result
-        (E.written err.old) (E.written err.new) (E.faults err.old) (E.faults err.new) }
+        (E.written err.old) (E.written err.new) (E.faults err.old) (E.faults err.new)
+        (E.refused err.old) (E.refused err.new) }
 {
     match answer {
         Ok(EndKind::Terminate) | Ok(EndKind::InputEnd) | Ok(EndKind::CancelServed) => 0,
@@ -76,7 +78,8 @@ pub fn report_conversation<E: Sink>(answer: Result<EndKind, ServeError>, err: &m
 pub fn write_line<E: Sink>(status: u8, line: &str, err: &mut E) -> u8
     requires { line.now ≢ [] }
     ensures { Reports status line.now result (E.written err.old) (E.written err.new)
-        (E.faults err.old) (E.faults err.new) }
+        (E.faults err.old) (E.faults err.new)
+        (E.refused err.old) (E.refused err.new) }
 {
     match err.send(line.as_bytes()) {
         Ok(()) | Err(SinkError::Failed) => status,

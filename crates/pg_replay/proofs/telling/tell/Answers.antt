@@ -8,16 +8,16 @@ use Rattle.pg_replay.specs.Statuses.{status_of, line_of}
 use Rattle.pg_replay.proofs.telling.tell.Goals as goal
 
 -- what is reported at an outcome that is known
-told_at : (known outcome : Outcome) (ended : ℕ) (old new : Option (List ℕ)) (faults new_faults : ℕ) → outcome ≡ known
-    → IsReported (status_of known) (line_of known) ended old new faults new_faults
-    → IsReported (status_of outcome) (line_of outcome) ended old new faults new_faults
-told_at known outcome ended old new faults new_faults is told =
-    subst (λ o. IsReported (status_of o) (line_of o) ended old new faults new_faults) (sym is) told
+told_at : (known outcome : Outcome) (ended : ℕ) (old new : Option (List ℕ)) (faults new_faults refused new_refused : ℕ) → outcome ≡ known
+    → IsReported (status_of known) (line_of known) ended old new faults new_faults refused new_refused
+    → IsReported (status_of outcome) (line_of outcome) ended old new faults new_faults refused new_refused
+told_at known outcome ended old new faults new_faults refused new_refused is told =
+    subst (λ o. IsReported (status_of o) (line_of o) ended old new faults new_faults refused new_refused) (sym is) told
 
 -- no line, and nothing was written
-nothing_told : (status : ℕ) (old : Option (List ℕ)) (faults : ℕ) → IsReported status [] status old old faults faults
-nothing_told status None faults = inl (inl (refl, tt))
-nothing_told status (Some before) faults = inl (inl (refl, ap Some (sym (append-nil before))))
+nothing_told : (status : ℕ) (old : Option (List ℕ)) (faults refused : ℕ) → IsReported status [] status old old faults faults refused refused
+nothing_told status None faults refused = inl (inl (refl, tt))
+nothing_told status (Some before) faults refused = inl (inl (refl, ap Some (sym (append-nil before))))
 
 -- a line that begins with a byte
 no_empty_line : (byte : ℕ) (rest : List ℕ) → byte ∷ rest ≢ []
@@ -27,7 +27,8 @@ pub returns-in-Usage : goal.returns-in-Usage
 returns-in-Usage g c =
     let told = c.write_line in record {
       reported = told_at Usage c.args.outcome.now told.result (g.E.Sink.written c.args.err.now)
-          (g.E.Sink.written told.new.err) (g.E.Sink.faults c.args.err.now) (g.E.Sink.faults told.new.err) c.in-Usage.is
+          (g.E.Sink.written told.new.err) (g.E.Sink.faults c.args.err.now) (g.E.Sink.faults told.new.err)
+          (g.E.Sink.refused c.args.err.now) (g.E.Sink.refused told.new.err) c.in-Usage.is
           told.ensures.reported;
       never_falls = told.ensures.never_falls;
     }
@@ -36,7 +37,8 @@ pub returns-in-File : goal.returns-in-File
 returns-in-File g c =
     let told = c.report_file in record {
       reported = told_at (File c.in-File.error) c.args.outcome.now told.result (g.E.Sink.written c.args.err.now)
-          (g.E.Sink.written told.new.err) (g.E.Sink.faults c.args.err.now) (g.E.Sink.faults told.new.err) c.in-File.is
+          (g.E.Sink.written told.new.err) (g.E.Sink.faults c.args.err.now) (g.E.Sink.faults told.new.err)
+          (g.E.Sink.refused c.args.err.now) (g.E.Sink.refused told.new.err) c.in-File.is
           told.ensures.reported;
       never_falls = told.ensures.never_falls;
     }
@@ -44,20 +46,23 @@ returns-in-File g c =
 pub returns-in-Done-clause-reported : goal.returns-in-Done-clause-reported
 returns-in-Done-clause-reported g c =
     told_at Done c.args.outcome.now 0 (g.E.Sink.written c.args.err.now) (g.E.Sink.written c.args.err.now)
-    (g.E.Sink.faults c.args.err.now) (g.E.Sink.faults c.args.err.now) c.in-Done.is
-    (nothing_told 0 (g.E.Sink.written c.args.err.now) (g.E.Sink.faults c.args.err.now))
+    (g.E.Sink.faults c.args.err.now) (g.E.Sink.faults c.args.err.now)
+    (g.E.Sink.refused c.args.err.now) (g.E.Sink.refused c.args.err.now) c.in-Done.is
+    (nothing_told 0 (g.E.Sink.written c.args.err.now) (g.E.Sink.faults c.args.err.now) (g.E.Sink.refused c.args.err.now))
 
 pub returns-in-Differs-clause-reported : goal.returns-in-Differs-clause-reported
 returns-in-Differs-clause-reported g c =
     told_at Differs c.args.outcome.now 20 (g.E.Sink.written c.args.err.now) (g.E.Sink.written c.args.err.now)
-    (g.E.Sink.faults c.args.err.now) (g.E.Sink.faults c.args.err.now) c.in-Differs.is
-    (nothing_told 20 (g.E.Sink.written c.args.err.now) (g.E.Sink.faults c.args.err.now))
+    (g.E.Sink.faults c.args.err.now) (g.E.Sink.faults c.args.err.now)
+    (g.E.Sink.refused c.args.err.now) (g.E.Sink.refused c.args.err.now) c.in-Differs.is
+    (nothing_told 20 (g.E.Sink.written c.args.err.now) (g.E.Sink.faults c.args.err.now) (g.E.Sink.refused c.args.err.now))
 
 pub returns-in-ReadFault : goal.returns-in-ReadFault
 returns-in-ReadFault g c =
     let told = c.write_line-in-ReadFault in record {
       reported = told_at ReadFault c.args.outcome.now told.result (g.E.Sink.written c.args.err.now)
-          (g.E.Sink.written told.new.err) (g.E.Sink.faults c.args.err.now) (g.E.Sink.faults told.new.err) c.in-ReadFault.is
+          (g.E.Sink.written told.new.err) (g.E.Sink.faults c.args.err.now) (g.E.Sink.faults told.new.err)
+          (g.E.Sink.refused c.args.err.now) (g.E.Sink.refused told.new.err) c.in-ReadFault.is
           told.ensures.reported;
       never_falls = told.ensures.never_falls;
     }
@@ -66,7 +71,8 @@ pub returns-in-WriteFault : goal.returns-in-WriteFault
 returns-in-WriteFault g c =
     let told = c.write_line-in-WriteFault in record {
       reported = told_at WriteFault c.args.outcome.now told.result (g.E.Sink.written c.args.err.now)
-          (g.E.Sink.written told.new.err) (g.E.Sink.faults c.args.err.now) (g.E.Sink.faults told.new.err) c.in-WriteFault.is
+          (g.E.Sink.written told.new.err) (g.E.Sink.faults c.args.err.now) (g.E.Sink.faults told.new.err)
+          (g.E.Sink.refused c.args.err.now) (g.E.Sink.refused told.new.err) c.in-WriteFault.is
           told.ensures.reported;
       never_falls = told.ensures.never_falls;
     }
@@ -75,7 +81,8 @@ pub returns-in-TurnLimit : goal.returns-in-TurnLimit
 returns-in-TurnLimit g c =
     let told = c.write_line-in-TurnLimit in record {
       reported = told_at TurnLimit c.args.outcome.now told.result (g.E.Sink.written c.args.err.now)
-          (g.E.Sink.written told.new.err) (g.E.Sink.faults c.args.err.now) (g.E.Sink.faults told.new.err) c.in-TurnLimit.is
+          (g.E.Sink.written told.new.err) (g.E.Sink.faults c.args.err.now) (g.E.Sink.faults told.new.err)
+          (g.E.Sink.refused c.args.err.now) (g.E.Sink.refused told.new.err) c.in-TurnLimit.is
           told.ensures.reported;
       never_falls = told.ensures.never_falls;
     }
@@ -84,7 +91,8 @@ pub returns-in-NoMemory : goal.returns-in-NoMemory
 returns-in-NoMemory g c =
     let told = c.write_line-in-NoMemory in record {
       reported = told_at NoMemory c.args.outcome.now told.result (g.E.Sink.written c.args.err.now)
-          (g.E.Sink.written told.new.err) (g.E.Sink.faults c.args.err.now) (g.E.Sink.faults told.new.err) c.in-NoMemory.is
+          (g.E.Sink.written told.new.err) (g.E.Sink.faults c.args.err.now) (g.E.Sink.faults told.new.err)
+          (g.E.Sink.refused c.args.err.now) (g.E.Sink.refused told.new.err) c.in-NoMemory.is
           told.ensures.reported;
       never_falls = told.ensures.never_falls;
     }
@@ -93,7 +101,8 @@ pub returns-in-TooLong : goal.returns-in-TooLong
 returns-in-TooLong g c =
     let told = c.write_line-in-TooLong in record {
       reported = told_at TooLong c.args.outcome.now told.result (g.E.Sink.written c.args.err.now)
-          (g.E.Sink.written told.new.err) (g.E.Sink.faults c.args.err.now) (g.E.Sink.faults told.new.err) c.in-TooLong.is
+          (g.E.Sink.written told.new.err) (g.E.Sink.faults c.args.err.now) (g.E.Sink.faults told.new.err)
+          (g.E.Sink.refused c.args.err.now) (g.E.Sink.refused told.new.err) c.in-TooLong.is
           told.ensures.reported;
       never_falls = told.ensures.never_falls;
     }
@@ -102,7 +111,8 @@ pub returns-in-BadRecording : goal.returns-in-BadRecording
 returns-in-BadRecording g c =
     let told = c.write_line-in-BadRecording in record {
       reported = told_at BadRecording c.args.outcome.now told.result (g.E.Sink.written c.args.err.now)
-          (g.E.Sink.written told.new.err) (g.E.Sink.faults c.args.err.now) (g.E.Sink.faults told.new.err) c.in-BadRecording.is
+          (g.E.Sink.written told.new.err) (g.E.Sink.faults c.args.err.now) (g.E.Sink.faults told.new.err)
+          (g.E.Sink.refused c.args.err.now) (g.E.Sink.refused told.new.err) c.in-BadRecording.is
           told.ensures.reported;
       never_falls = told.ensures.never_falls;
     }

@@ -8,16 +8,16 @@ use Rattle.relation_server.specs.Outcomes.{status_of, line_of}
 use Rattle.relation_server.proofs.report.report.Goals as goal
 
 -- what is reported at an outcome that is known
-told_at : (known outcome : Outcome) (ended : ℕ) (old new : Option (List ℕ)) (faults new_faults : ℕ) → outcome ≡ known
-    → IsReported (status_of known) (line_of known) ended old new faults new_faults
-    → IsReported (status_of outcome) (line_of outcome) ended old new faults new_faults
-told_at known outcome ended old new faults new_faults is told =
-    subst (λ o. IsReported (status_of o) (line_of o) ended old new faults new_faults) (sym is) told
+told_at : (known outcome : Outcome) (ended : ℕ) (old new : Option (List ℕ)) (faults new_faults refused new_refused : ℕ) → outcome ≡ known
+    → IsReported (status_of known) (line_of known) ended old new faults new_faults refused new_refused
+    → IsReported (status_of outcome) (line_of outcome) ended old new faults new_faults refused new_refused
+told_at known outcome ended old new faults new_faults refused new_refused is told =
+    subst (λ o. IsReported (status_of o) (line_of o) ended old new faults new_faults refused new_refused) (sym is) told
 
 -- no line, and nothing was written
-nothing_told : (status : ℕ) (old : Option (List ℕ)) (faults : ℕ) → IsReported status [] status old old faults faults
-nothing_told status None faults = inl (inl (refl, tt))
-nothing_told status (Some before) faults = inl (inl (refl, ap Some (sym (append-nil before))))
+nothing_told : (status : ℕ) (old : Option (List ℕ)) (faults refused : ℕ) → IsReported status [] status old old faults faults refused refused
+nothing_told status None faults refused = inl (inl (refl, tt))
+nothing_told status (Some before) faults refused = inl (inl (refl, ap Some (sym (append-nil before))))
 
 -- a line that begins with a byte
 no_empty_line : (byte : ℕ) (rest : List ℕ) → byte ∷ rest ≢ []
@@ -26,8 +26,9 @@ no_empty_line byte rest = λ e. cc
 pub returns-in-Done : goal.returns-in-Done
 returns-in-Done g c = record {
   reported = told_at Done c.args.outcome.now 0 (g.E.Sink.written c.args.err.now) (g.E.Sink.written c.args.err.now)
-      (g.E.Sink.faults c.args.err.now) (g.E.Sink.faults c.args.err.now) c.in-Done.is
-      (nothing_told 0 (g.E.Sink.written c.args.err.now) (g.E.Sink.faults c.args.err.now));
+      (g.E.Sink.faults c.args.err.now) (g.E.Sink.faults c.args.err.now)
+      (g.E.Sink.refused c.args.err.now) (g.E.Sink.refused c.args.err.now) c.in-Done.is
+      (nothing_told 0 (g.E.Sink.written c.args.err.now) (g.E.Sink.faults c.args.err.now) (g.E.Sink.refused c.args.err.now));
   never_falls = omega arith;
 }
 
@@ -35,7 +36,8 @@ pub returns-in-Usage : goal.returns-in-Usage
 returns-in-Usage g c =
     let told = c.write_line in record {
       reported = told_at Usage c.args.outcome.now told.result (g.E.Sink.written c.args.err.now)
-          (g.E.Sink.written told.new.err) (g.E.Sink.faults c.args.err.now) (g.E.Sink.faults told.new.err) c.in-Usage.is
+          (g.E.Sink.written told.new.err) (g.E.Sink.faults c.args.err.now) (g.E.Sink.faults told.new.err)
+          (g.E.Sink.refused c.args.err.now) (g.E.Sink.refused told.new.err) c.in-Usage.is
           told.ensures.reported;
       never_falls = told.ensures.never_falls;
     }
@@ -44,7 +46,8 @@ pub returns-in-File : goal.returns-in-File
 returns-in-File g c =
     let told = c.report_file in record {
       reported = told_at (File c.in-File.error) c.args.outcome.now told.result (g.E.Sink.written c.args.err.now)
-          (g.E.Sink.written told.new.err) (g.E.Sink.faults c.args.err.now) (g.E.Sink.faults told.new.err) c.in-File.is
+          (g.E.Sink.written told.new.err) (g.E.Sink.faults c.args.err.now) (g.E.Sink.faults told.new.err)
+          (g.E.Sink.refused c.args.err.now) (g.E.Sink.refused told.new.err) c.in-File.is
           told.ensures.reported;
       never_falls = told.ensures.never_falls;
     }
@@ -53,7 +56,8 @@ pub returns-in-PidTaken : goal.returns-in-PidTaken
 returns-in-PidTaken g c =
     let told = c.write_line-in-PidTaken in record {
       reported = told_at PidTaken c.args.outcome.now told.result (g.E.Sink.written c.args.err.now)
-          (g.E.Sink.written told.new.err) (g.E.Sink.faults c.args.err.now) (g.E.Sink.faults told.new.err) c.in-PidTaken.is
+          (g.E.Sink.written told.new.err) (g.E.Sink.faults c.args.err.now) (g.E.Sink.faults told.new.err)
+          (g.E.Sink.refused c.args.err.now) (g.E.Sink.refused told.new.err) c.in-PidTaken.is
           told.ensures.reported;
       never_falls = told.ensures.never_falls;
     }
@@ -62,7 +66,8 @@ pub returns-in-Conversation : goal.returns-in-Conversation
 returns-in-Conversation g c =
     let told = c.report_conversation in record {
       reported = told_at (Conversation c.in-Conversation.answer) c.args.outcome.now told.result (g.E.Sink.written c.args.err.now)
-          (g.E.Sink.written told.new.err) (g.E.Sink.faults c.args.err.now) (g.E.Sink.faults told.new.err) c.in-Conversation.is
+          (g.E.Sink.written told.new.err) (g.E.Sink.faults c.args.err.now) (g.E.Sink.faults told.new.err)
+          (g.E.Sink.refused c.args.err.now) (g.E.Sink.refused told.new.err) c.in-Conversation.is
           told.ensures.reported;
       never_falls = told.ensures.never_falls;
     }
@@ -71,7 +76,8 @@ pub returns-in-AcceptFault : goal.returns-in-AcceptFault
 returns-in-AcceptFault g c =
     let told = c.write_line-in-AcceptFault in record {
       reported = told_at AcceptFault c.args.outcome.now told.result (g.E.Sink.written c.args.err.now)
-          (g.E.Sink.written told.new.err) (g.E.Sink.faults c.args.err.now) (g.E.Sink.faults told.new.err) c.in-AcceptFault.is
+          (g.E.Sink.written told.new.err) (g.E.Sink.faults c.args.err.now) (g.E.Sink.faults told.new.err)
+          (g.E.Sink.refused c.args.err.now) (g.E.Sink.refused told.new.err) c.in-AcceptFault.is
           told.ensures.reported;
       never_falls = told.ensures.never_falls;
     }
@@ -80,7 +86,8 @@ pub returns-in-SpawnFault : goal.returns-in-SpawnFault
 returns-in-SpawnFault g c =
     let told = c.write_line-in-SpawnFault in record {
       reported = told_at SpawnFault c.args.outcome.now told.result (g.E.Sink.written c.args.err.now)
-          (g.E.Sink.written told.new.err) (g.E.Sink.faults c.args.err.now) (g.E.Sink.faults told.new.err) c.in-SpawnFault.is
+          (g.E.Sink.written told.new.err) (g.E.Sink.faults c.args.err.now) (g.E.Sink.faults told.new.err)
+          (g.E.Sink.refused c.args.err.now) (g.E.Sink.refused told.new.err) c.in-SpawnFault.is
           told.ensures.reported;
       never_falls = told.ensures.never_falls;
     }
