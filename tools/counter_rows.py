@@ -7,8 +7,8 @@ Each NEXT that is asked where a query is awaited is answered by the next number,
 """
 import struct
 
-from cursor_rows import IDLE, frame, tag, written
-from cursor_serving_rows import GREETING, HEAD, START, TERMINATE, error, everywhere, parse, query, show, sync
+from cursor_rows import BOUND, CLOSED, IDLE, PARSED, frame, tag, written
+from cursor_serving_rows import GREETING, HEAD, START, TERMINATE, bind, describe, error, everywhere, execute, parse, query, show, sync, text
 
 NUMBER = frame(b"T", struct.pack(">h", 1) + b"number\0" + struct.pack(">ihihih", 0, 0, 1700, -1, -1, 0))
 REFUSED = error("42601", "the only query is NEXT, as a simple query")
@@ -26,6 +26,19 @@ def numbers(*counted):
 
 
 NEXT = numbers(1)[0][0]
+
+
+def message(kind, body, replies):
+    return (written([frame(kind, body)]), replies, "")
+
+
+# A statement of a blank text has no columns, and is executed without a query. What it leaves is there whichever sheet answers.
+BLANK = [
+    START, *numbers(1), parse("e", "; ", [PARSED]), message(b"D", b"S" + text("e"), [frame(b"t", b"\0\0"), frame(b"n")]), *numbers(2),
+    bind("p", "e", [BOUND]), describe("p", [frame(b"n")]), execute("p", 0, [frame(b"I")]), message(b"H", b"", []),
+    message(b"C", b"P" + text("p"), [CLOSED]), execute("p", 0, [error("34000", 'portal "p" does not exist')]), sync(),
+    message(b"C", b"S" + text("e"), [CLOSED]), bind("", "e", [error("26000", 'prepared statement "e" does not exist')]), sync(), sync(),
+    *numbers(3), TERMINATE]
 
 
 def long_client(name, length, how, end):
@@ -52,6 +65,7 @@ def main():
         *numbers(2), TERMINATE])
     everywhere("NEXT as an extended query, and one that a client sends before its Sync", [
         START, *numbers(1), parse("", "NEXT", [REFUSED]), query("NEXT", [], ""), sync(), *numbers(2), TERMINATE])
+    everywhere("a blank statement, its portal, and both closed", BLANK)
     print()
     print("# ---- conversations that are cut off")
     show("the input ends in a NEXT", [START, *numbers(1, 2)], client=START[0] + 2 * NEXT + NEXT[:4], end="InputEnd")
