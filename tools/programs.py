@@ -24,7 +24,7 @@ BUILT = TOP / ".built"
 # The programs that are installed, by the names that they tell of themselves.
 NAMES = {"server": "relation_server", "cursor": "pg_cursor", "replay": "pg_replay", "rota": "rota_report"}
 # The programs over handlers, which are not installed.
-OVER_HANDLERS = ["styles_server", "waiting_server"]
+OVER_HANDLERS = ["styles_server", "waiting_server", "schedule_server"]
 NO_KIT = 'No rt on the PATH: it comes with a Rattle kit (README.md, "What is needed")'
 
 

@@ -22,6 +22,8 @@ MADE = [
     ("recording_rows", "stdin", "recording_rows.py", None, "whole"),
     ("relation_rows", "stdin", "demo_load.py rows", "stdin", "loads"),
     ("server", "stdout", "demo_lines.py 0 1", None, "whole"),
+    ("schedule_server", "stdin", "schedule_rows.py client", None, "whole"),
+    ("schedule_server", "stdout", "schedule_rows.py replies", None, "whole"),
     ("styles_server", "stdin", "styles_rows.py client", None, "whole"),
     ("styles_server", "stdout", "styles_rows.py replies", None, "whole"),
     ("text_rows", "stdout", "read_intervals.py", "stdin", "read"),

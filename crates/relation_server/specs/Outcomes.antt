@@ -1,8 +1,8 @@
 -- What the program tells of a command: a status, and a line on its error output.
-use Rattle.std.specs.Prelude.{ℕ, List, [], Option, codes}
+use Rattle.std.specs.Prelude.{ℕ, List, [], codes}
 use Rattle.relation_server.specs.declared.outcome.Outcome.{Outcome}
 use Rattle.relation_server.specs.declared.outcome.Outcome.TheVariants.{Done, Usage, File, PidTaken, Conversation, AcceptFault, SpawnFault}
-use Rattle.status_lines.specs.StatusLines.{IsReported, line, line_of_conversation, line_of_file, status_of_conversation, status_of_file}
+use Rattle.status_lines.specs.StatusLines.{line, line_of_conversation, line_of_file, status_of_conversation, status_of_file}
 
 -- ---- the status
 
@@ -31,10 +31,3 @@ line_of PidTaken = line (codes "pid is taken")
 line_of (Conversation answer) = line_of_conversation answer
 line_of AcceptFault = line (codes "accept fault")
 line_of SpawnFault = line (codes "spawn fault")
-
--- ---- both
-
--- some outcome was told: its line was written to the error output, and this status answered
-abbrev pub IsToldOf : ℕ → Option (List ℕ) → Option (List ℕ) → ℕ → ℕ → ℕ → ℕ → Type 0
-IsToldOf ended old new faults new_faults refused new_refused =
-    (outcome : Outcome) × IsReported (status_of outcome) (line_of outcome) ended old new faults new_faults refused new_refused

@@ -1,8 +1,12 @@
 //! The program over what is outside of it: the standard input, and a place to listen at.
 
-ghost use Rattle.std.specs.Prelude.{◌≡◌, ◌≤◌, IfOk};
+ghost use Rattle.std.specs.Prelude.{◌≡◌, [], ◌∷◌, IfOk};
 ghost use Rattle.std.specs.Arc.{arc_value};
-ghost use Rattle.relation_server.specs.Outcomes.{IsToldOf};
+ghost use Rattle.program_io.specs.Telling.{written_to};
+ghost use Rattle.relation_words.specs.Commands.{command_of};
+ghost use Rattle.relation_words.specs.Listening.{listen_count_of};
+ghost use Rattle.status_lines.specs.Counts.{CountsNeverFall};
+ghost use Rattle.relation_server.specs.Places.{HasServedStandard, HasServedPlace, starts_of};
 
 use crate::connection_job::ConnectionJob;
 use crate::many_clients_program::run_listen;
@@ -34,10 +38,13 @@ pub fn serve_standard<R: Wait + Files + Input, K: Sink, E: Sink>(
     out: &mut K,
     err: &mut E,
 ) -> u8
-    ensures told { IsToldOf result (E.written err.old) (E.written err.new) (E.faults err.old)
-        (E.faults err.new)
-        (E.refused err.old) (E.refused err.new) }
-    ensures never_falls { E.faults err.old ≤ E.faults err.new }
+    ensures ran { HasServedStandard (command_of words.now) result
+        (written_to K.written K.faults K.refused out.old)
+        (written_to K.written K.faults K.refused out.new)
+        (written_to E.written E.faults E.refused err.old)
+        (written_to E.written E.faults E.refused err.new) }
+    ensures never_falls { CountsNeverFall (K.faults out.old ∷ E.faults err.old ∷ [])
+        (K.faults out.new ∷ E.faults err.new ∷ []) }
 {
     let Ok((manager, mut door)) = ConnectionManager::new(alloc) else {
         return report(alloc, &Outcome::OUT_OF_MEMORY, err);
@@ -75,10 +82,13 @@ pub fn serve_place<
     E: Sink,
 >(rt: R, alloc: Global, words: &[PgStr], place: ListenPlace<'_>, spawner: &mut P, err: &mut E) -> u8
     requires started { P.started spawner.old ≡ 0 }
-    ensures told { IsToldOf result (E.written err.old) (E.written err.new) (E.faults err.old)
-        (E.faults err.new)
-        (E.refused err.old) (E.refused err.new) }
-    ensures never_falls { E.faults err.old ≤ E.faults err.new }
+    ensures ran { HasServedPlace (listen_count_of words.now) result
+        (starts_of P.started P.faults P.taken spawner.old)
+        (starts_of P.started P.faults P.taken spawner.new)
+        (written_to E.written E.faults E.refused err.old)
+        (written_to E.written E.faults E.refused err.new) }
+    ensures never_falls { CountsNeverFall (P.faults spawner.old ∷ E.faults err.old ∷ [])
+        (P.faults spawner.new ∷ E.faults err.new ∷ []) }
 {
     let Ok((manager, mut door)) = shared_registry(alloc) else {
         return report(alloc, &Outcome::OUT_OF_MEMORY, err);
@@ -105,6 +115,7 @@ pub fn serve_place<
 /// An empty registry for jobs to share, and its door.
 fn shared_registry(alloc: Global) -> Result<(Arc<ConnectionManager>, Door), AllocError>
     ensures issued { IfOk result (λ registry. registry.1.issuer ≡ arc_value registry.0) }
+    ensures empty { IfOk result (λ registry. registry.1.seen ≡ []) }
 {
     let (manager, door) = ConnectionManager::new(alloc)?;
     let manager = Arc::new(alloc, manager)?;

@@ -14,10 +14,10 @@ ghost use Rattle.schedule.specs.World.{ends_transaction, has_failed, met_by, met
 use asked_queries::{Asked, asked_by};
 use pg_client::Client;
 use pg_messages::{PgBytes, PgWireFrontendMessage, TransactionStatus};
-use pg_portal::{Format, OnDemand, PgWireError, PortalStore};
+use pg_portal::{Format, PgWireError, PortalStore};
 use shared_worlds::SharedWorld;
 use shift_orders::{ShiftOrder, ShiftStatement, order_of, parse_statement};
-use shift_rows::ShiftRows;
+use shift_rows::ShownShifts;
 use shift_sheets::{Answer, Sheets, ShiftSheet};
 use shift_table::ShiftTable;
 use shift_transactions::{Refusal, Steps, Transaction, do_order};
@@ -73,7 +73,7 @@ impl SharedWorld for Schedule {
         ShiftSheet::new(alloc, Answer::Nothing)
     }
 
-    fn meet<St: PortalStore<Statement = ShiftStatement, Rows = OnDemand<ShiftRows>>>(
+    fn meet<St: PortalStore<Statement = ShiftStatement, Rows = ShownShifts>>(
         &mut self,
         alloc: Global,
         own: &mut Option<Transaction>,

@@ -3,5 +3,7 @@
 #![tactic(auto)]
 
 mod clients;
+mod service;
 
 pub use clients::SharedClients;
+pub use service::WorldService;

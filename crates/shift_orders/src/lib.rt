@@ -10,6 +10,3 @@ mod values;
 pub use order::{ShiftOrder, order_of};
 pub use statement::{Argument, ShiftStatement, parse_statement};
 pub use types::parameter_types;
-
-#[cfg(test)]
-mod tests;

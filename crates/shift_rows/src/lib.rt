@@ -4,9 +4,11 @@
 mod cells;
 mod fields;
 mod shift_rows;
+mod shown;
 
 pub use fields::columns;
 pub use shift_rows::ShiftRows;
+pub use shown::ShownShifts;
 
 #[cfg(test)]
 mod tests;

@@ -1,4 +1,3 @@
 pub mod Answers
-pub mod Rows
 pub mod Sheets
 pub mod Orders

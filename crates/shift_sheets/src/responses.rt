@@ -12,22 +12,21 @@ ghost use Rattle.pg_results.specs.Rows.{IsAnswerableItem};
 ghost use Rattle.pg_results.specs.Told.{IsOutcome, told_rows};
 ghost use Rattle.row_handlers.specs.Told.{rows_under};
 ghost use Rattle.shift_rows.specs.ShiftRows.{columns, shift_items};
-ghost use Rattle.shift_sheets.specs.Rows.{rows_to_come};
 ghost use Rattle.shift_sheets.specs.Answers.{CanBeTold, refused, response_in, said};
 
 use crate::answer::Answer;
 use pg_handlers::NoRows;
 use pg_messages::{ErrorInfo, PgStr};
-use pg_portal::{Format, OnDemand, PgWireError, QueryResponse, Response, Tag};
+use pg_portal::{Format, PgWireError, QueryResponse, Response, Tag};
 use row_handlers::user_error;
-use shift_rows::{ShiftRows, columns};
+use shift_rows::{ShownShifts, columns};
 use shift_table::Shift;
 use shift_transactions::Refusal;
 use std::alloc::{AllocError, Global};
 use std::sync::Arc;
 
 /// A response about shifts.
-pub(crate) type ShiftResponse = Response<OnDemand<ShiftRows>, NoRows>;
+pub(crate) type ShiftResponse = Response<ShownShifts, NoRows>;
 
 /// The response that an answer comes to, whose rows are in these formats.
 pub(crate) fn response(
@@ -37,9 +36,9 @@ pub(crate) fn response(
 ) -> Result<ShiftResponse, PgWireError>
     requires { CanBeTold answer.now }
     ensures outcome { IsOutcome (response_in formats.now (said answer.now))
-        (told_one rows_to_come (λ none. []) result) }
+        (told_one (λ rows. rows) (λ none. []) result) }
     ensures sendable { IfOk result (λ response. IsSendableResponse
-        (told_response rows_to_come (λ none. []) response)) }
+        (told_response (λ rows. rows) (λ none. []) response)) }
     ensures answerable { IfErr result IsAnswerableItem }
 {
     match answer {
@@ -60,16 +59,16 @@ fn shown(
     alloc: Global,
     shifts: &Arc<Vec<Shift>>,
     formats: &Format,
-) -> Result<QueryResponse<OnDemand<ShiftRows>>, AllocError>
-    ensures told { IfOk result (λ r. response.Query (told_rows rows_to_come r)
+) -> Result<QueryResponse<ShownShifts>, AllocError>
+    ensures told { IfOk result (λ r. response.Query (told_rows (λ rows. rows) r)
         ≡ rows_under (columns formats.now)
         (shift_items (record { shifts = (arc_value shifts.now).items; formats = formats.now }))) }
     ensures sendable { IfOk result (λ r. IsEncodable (row_description (arc_value r.row_schema))) }
     ensures tag { IfOk result (λ r. r.command_tag ≡ codes "SELECT") }
 {
     let fields = Arc::new(alloc, columns(alloc, formats)?)?;
-    let maker = ShiftRows::new(alloc, Arc::try_clone(shifts)?, formats.copy_of(alloc)?);
-    QueryResponse::new(alloc, fields, OnDemand::new(maker))
+    let rows = ShownShifts::new(alloc, Arc::try_clone(shifts)?, formats.copy_of(alloc)?);
+    QueryResponse::new(alloc, fields, rows)
 }
 
 /// The error of an order that was refused.

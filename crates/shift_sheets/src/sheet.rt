@@ -11,7 +11,6 @@ ghost use Rattle.pg_results.specs.Told.{IsOutcome};
 ghost use Rattle.pg_results.specs.declared.format.Format.TheVariants as format;
 ghost use Rattle.row_handlers.specs.Told.{alone};
 ghost use Rattle.shift_sheets.specs.Answers.{CanBeTold, response_in, said};
-ghost use Rattle.shift_sheets.specs.Rows.{rows_to_come};
 
 use crate::answer::Answer;
 use crate::parser::{ShiftParser, columns_of};
@@ -22,12 +21,12 @@ use pg_handlers::{
 };
 use pg_messages::PgList;
 use pg_portal::{
-    ClientInfo, DescribePortalResponse, DescribeStatementResponse, Format, OnDemand, PgWireError,
-    Portal, StoredStatement,
+    ClientInfo, DescribePortalResponse, DescribeStatementResponse, Format, PgWireError, Portal,
+    StoredStatement,
 };
 use row_handlers::begun;
 use shift_orders::{ShiftStatement, parameter_types};
-use shift_rows::ShiftRows;
+use shift_rows::ShownShifts;
 use std::alloc::{AllocError, Global};
 use std::marker::Model;
 use std::sync::Arc;
@@ -70,9 +69,9 @@ impl ShiftSheet {
     /// The responses to a simple query, whose rows are text: one.
     fn simple_response(&self, alloc: Global) -> Result<PgList<ShiftResponse>, PgWireError>
         ensures outcome { IsOutcome (alone (response_in format.UnifiedText (said self.now)))
-            (told_all rows_to_come (λ none. []) result) }
+            (told_all (λ rows. rows) (λ none. []) result) }
         ensures sendable { IfOk result (λ all. AllByRecursion IsSendableResponse
-            (told_responses rows_to_come (λ none. []) all)) }
+            (told_responses (λ rows. rows) (λ none. []) all)) }
         ensures answerable { IfErr result IsAnswerableItem }
     {
         let mut all = PgList::new(alloc);
@@ -85,7 +84,7 @@ impl SimpleQueryHandler for ShiftSheet {
     ghost use Rattle.shift_sheets.specs.Answers.{said};
     ghost use Rattle.shift_sheets.specs.Sheets.{told_simple};
 
-    type Rows = OnDemand<ShiftRows>;
+    type Rows = ShownShifts;
 
     type CopyRows = NoRows;
 
@@ -111,7 +110,7 @@ impl ExtendedQueryHandler for ShiftSheet {
 
     type QueryParser = ShiftParser;
 
-    type Rows = OnDemand<ShiftRows>;
+    type Rows = ShownShifts;
 
     type CopyRows = NoRows;
 
@@ -138,7 +137,7 @@ impl ExtendedQueryHandler for ShiftSheet {
         &self,
         alloc: Global,
         _client: &ClientInfo,
-        target: &Portal<ShiftStatement, OnDemand<ShiftRows>>,
+        target: &Portal<ShiftStatement, ShownShifts>,
     ) -> Result<DescribePortalResponse, PgWireError> {
         let statement = &target.statement.statement;
         let fields = columns_of(alloc, statement, &target.result_column_format)?;
@@ -149,7 +148,7 @@ impl ExtendedQueryHandler for ShiftSheet {
         &self,
         alloc: Global,
         _client: &ClientInfo,
-        portal: &Portal<ShiftStatement, OnDemand<ShiftRows>>,
+        portal: &Portal<ShiftStatement, ShownShifts>,
         _max_rows: i32,
     ) -> Result<PolledQuery<ShiftResponse>, AllocError> {
         begun(response(alloc, &self.answer, &portal.result_column_format))

@@ -13,6 +13,3 @@ pub use laws::no_two_shifts_clash;
 pub use outcome::{Outcome, Refusal};
 pub use step::{Step, Steps};
 pub use transaction::Transaction;
-
-#[cfg(test)]
-mod tests;
