@@ -1,4 +1,4 @@
-.PHONY: demo serve try clients build install uninstall handler quick proofs test edits bench docs rows pages
+.PHONY: demo serve try clients build install uninstall handler quick proofs test edits bodies bench docs rows pages
 
 CLIENT = tools/demo_client.hex
 ROSTERS = $(CURDIR)/data/rosters
@@ -81,6 +81,12 @@ quick:
 edits:
 	@python3 -B tools/held_edits.py $(NAMES)
 
+# Plants the wrong bodies under planted/, which no clause refuses, one at a time in a copy that is built unproved; sees that the rows, the
+# tests or the script that each names fail with it and pass without it; and records what refused each in tools/planted_bodies.tsv (hours
+# from nothing): make bodies NAMES=job_threads for one crate's, NAMES=server/server_drops_its_status for one.
+bodies:
+	@python3 -B tools/planted_bodies.py $(NAMES)
+
 # Times queries, printers, readers, the codec and the registry, on programs that are proved and built first.
 bench:
 	@echo "The programs are proved and built: from nothing up to two hours of processor time, later only what changed."
@@ -91,7 +97,7 @@ bench:
 	@for times in bench/key_costs bench/growth_costs $(wildcard bench/*_times); do echo $$times; $$times || exit 1; done
 
 # Compares docs/DEFINITIONS.md and docs/CONTRACTS.md with the crates that they are made from, and docs/WRONG_BODIES.md with the
-# edits, tests and checks that it names; and sees that no source forgets what it holds.
+# edits, bodies, tests and checks that it names; and sees that no source forgets what it holds.
 docs:
 	@status=0; for page in definitions contracts check_wrong_bodies check_sources; do python3 -B tools/$$page.py || status=1; done; exit $$status
 

@@ -2,17 +2,20 @@
 """Checks docs/WRONG_BODIES.md against the crates: usage: check_wrong_bodies.py
 
 Every row of a table headed "Wrong body | Refused by" names in backticks the edits and tests that refuse it. The check
-asks that each is there (an edit under some crate's must-fail/ or held/, a test function, a row of a table program; or a script
+asks that each is there (an edit under some crate's must-fail/, held/ or planted/, a test function, a row of a table program; or a script
 of tools/ or bench/, and behind it words of the lines that it tells, which have to stand in it), and that each edit of the crates is
 named; that no two edits of a crate have one name; and that each names a file of its crate, in which each
-`old:` text stands exactly once, behind what the pairs before it have made. It prints what is wrong, and its status is then 1.
+`old:` text stands exactly once, behind what the pairs before it have made; and that each planted body names one thing that can be run
+and has to refuse it. It prints what is wrong, and its status is then 1.
 """
 import re
 import sys
 
+from edits import changed, refusers
 from sources import TOP, known_examples, listed_crates
 
 PAGE = TOP / "docs" / "WRONG_BODIES.md"
+FOLDERS = ("must-fail", "held", "planted")
 
 
 def rows():
@@ -28,25 +31,10 @@ def rows():
             yield number, cells
 
 
-def misplaced(path):
-    """Why an edit can't be applied, if it can't: its pairs of `old:` and `new:` are taken in turn, in the file named before each."""
-    lines = re.findall("^(file|old|new):(?: (.*)|$)", path.read_text(), re.M)
-    texts, file, old = {}, None, None
-    for word, text in lines:
-        if word == "file":
-            file = path.parent.parent / text.strip()
-            if not file.is_file():
-                return f"there is no {text.strip()}"
-            texts.setdefault(file, file.read_text())
-        elif file is None or (word == "new") != (old is not None):
-            return "a line file: stands first, and then lines old: and new: in turn"
-        elif word == "old":
-            old = text
-            if texts[file].count(old) != 1:
-                return f"in {file.name} there stands {texts[file].count(old)} times and not once: {old}"
-        else:
-            texts[file], old = texts[file].replace(old, text), None
-    return "it has no pair of lines old: and new:" if old is not None or not texts or len(lines) < 3 else None
+def unrefused(path):
+    """What is wrong with what a planted body says of who refuses it, if something is."""
+    found = refusers(path)
+    return found[0].problem() if len(found) == 1 else f"it has {len(found)} lines refused by:, and not one"
 
 
 def lacking(names, known):
@@ -62,7 +50,7 @@ def lacking(names, known):
 def main():
     crates = listed_crates()
     tests, told = known_examples(crates)
-    found = [path for crate in crates for folder in ("must-fail", "held") for path in (TOP / "crates" / crate / folder).glob("*.edit")]
+    found = [path for crate in crates for folder in FOLDERS for path in (TOP / "crates" / crate / folder).glob("*.edit")]
     edits = {path.stem: path.relative_to(TOP) for path in found}
     named, problems = set(), []
     for number, cells in rows():
@@ -73,13 +61,14 @@ def main():
             problems.append(f"{place}: names no edit or test in backticks")
         problems += [f"{place}: no edit, test, row or check is called `{name}`" for name in lacking(names, (edits, tests, told))]
     problems += [f"docs/WRONG_BODIES.md: no row names {path}" for name, path in sorted(edits.items()) if name not in named]
-    problems += [f"{path.relative_to(TOP)}: {why}" for path in sorted(found) if (why := misplaced(path))]
+    problems += [f"{path.relative_to(TOP)}: {why}" for path in sorted(found) if (why := changed(path)[1])]
+    problems += [f"{path.relative_to(TOP)}: {why}" for path in sorted(found) if path.parent.name == "planted" and (why := unrefused(path))]
     of_crates = [(path.parent.parent.name, path.stem) for path in found]
     problems += [f"crates/{crate}: two edits are called {name}" for crate, name in sorted(set(of_crates)) if of_crates.count((crate, name)) > 1]
     for problem in problems:
         print(problem)
-    held = sum(path.parent.name == "held" for path in found)
-    print(f"{len(found) - held} must-fail edits, {held} held ones, {len(problems)} problems")
+    counts = [sum(path.parent.name == folder for path in found) for folder in FOLDERS]
+    print(f"{counts[0]} must-fail edits, {counts[1]} held ones, {counts[2]} planted bodies, {len(problems)} problems")
     return 1 if problems else 0
 
 
